@@ -1,0 +1,5 @@
+pub mod Meaning
+pub mod Primes
+pub mod Residues
+pub mod Bytes
+pub mod Faults
