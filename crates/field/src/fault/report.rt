@@ -4,6 +4,7 @@ ghost use Rattle.field.specs.Faults.{number-of, layer-of, place-of};
 use crate::FieldFault;
 
 const FIELD_LAYER: u32 = 1;
+
 const NO_PLACE: u32 = 0;
 
 impl FieldFault {
