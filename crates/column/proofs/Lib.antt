@@ -1,0 +1,10 @@
+pub mod Columns
+pub mod Exactness
+pub mod Fronts
+pub mod Justified
+pub mod Lines
+pub mod Newlines
+pub mod Places
+pub mod Questions
+pub mod Spelling
+pub mod Walks

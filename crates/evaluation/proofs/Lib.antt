@@ -1,0 +1,6 @@
+mod Sums
+mod Passing
+mod FirstNo
+mod Asking
+mod Summing
+mod Deciding

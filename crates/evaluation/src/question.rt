@@ -1,0 +1,6 @@
+// What a term is asked.
+#[derive(Clone, Copy)]
+pub enum Question {
+    Coefficient,
+    Exponents,
+}
