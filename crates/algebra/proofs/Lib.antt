@@ -1,0 +1,26 @@
+-- Chapters: the field and vectors; elements of words; lists, monomials, polynomials, ideals and congruence; evaluation; staircase and border; rules and normal forms; agreement and matrices; shaped bases; words.
+pub mod Laws
+pub mod Sums
+pub mod Dual
+pub mod Span
+pub mod Maps
+pub mod Elements
+pub mod Lists
+pub mod Monomials
+pub mod Polynomials
+pub mod Ideals
+pub mod Congruence
+pub mod Evaluation
+pub mod Columns
+pub mod Records
+pub mod Sorting
+pub mod Staircase
+pub mod Border
+pub mod Rules
+pub mod NormalForms
+pub mod Agreement
+pub mod Matrices
+pub mod Companion
+pub mod ShapedBasis
+pub mod HasShape
+pub mod Words

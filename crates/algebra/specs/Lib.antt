@@ -1,0 +1,17 @@
+pub mod Field
+pub mod Vector
+pub mod Elements
+pub mod Lists
+pub mod Monomial
+pub mod Polynomial
+pub mod Ideal
+pub mod Evaluation
+pub mod Order
+pub mod Records
+pub mod Staircase
+pub mod Border
+pub mod NormalForm
+pub mod Basis
+pub mod Matrices
+pub mod Shape
+pub mod Words

@@ -1,0 +1,15 @@
+pub mod Series
+pub mod Massey
+pub mod Lengths
+pub mod Tables
+pub mod Reading
+pub mod Adding
+pub mod Fronts
+pub mod Columns
+pub mod Turn
+pub mod Places
+pub mod Echelon
+pub mod Writes
+pub mod WordLists
+pub mod Room
+pub mod Carry
