@@ -1,0 +1,13 @@
+pub mod Question
+pub mod Job
+pub mod Enter
+pub mod Text
+pub mod Generators
+pub mod Close
+pub mod Convert
+pub mod Reduce
+pub mod Call
+pub mod Run
+pub mod Sound
+pub mod Whole
+pub mod Writing
