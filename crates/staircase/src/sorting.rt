@@ -27,7 +27,7 @@ fn place<O: Order>(order: &O, list: &[Monomial], m: Monomial) -> Result<usize, u
 
 // Puts `m` into the increasing first `count` of `list`, and says how many there are then: none where
 // there is no room for it.
-pub fn insert<O: Order>(
+pub(crate) fn insert<O: Order>(
     order: &O,
     list: &mut [Monomial],
     count: usize,
@@ -51,7 +51,7 @@ pub fn insert<O: Order>(
 
 // Puts the monomials of `from` into `into` in increasing order, each once, and says how many there
 // are then: none only where `into` is shorter than `from`.
-pub fn sort<O: Order>(order: &O, from: &[Monomial], into: &mut [Monomial]) -> Option<usize>
+pub(crate) fn sort<O: Order>(order: &O, from: &[Monomial], into: &mut [Monomial]) -> Option<usize>
     ensures { λ r. ⌜ elim r [ Some k ↦ (k ≤ length (now (into .entry))) × (take k (now (into .exit)) ≡ sorted-by (O·Order .meaning (now (order .entry))) (now (from .entry))) × (drop k (now (into .exit)) ≡ drop k (now (into .entry))) | None ↦ length (now (into .entry)) < length (now (from .entry)) ] ⌝ }
 {
     let mut count = 0;

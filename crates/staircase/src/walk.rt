@@ -61,7 +61,7 @@ fn grow(
 
 // The free monomials of the first `n` variables, in the order in which they are found: none where
 // there are more than `found` holds.
-pub fn collect(n: usize, leads: &[Monomial], found: &mut [Monomial]) -> Option<usize>
+pub(crate) fn collect(n: usize, leads: &[Monomial], found: &mut [Monomial]) -> Option<usize>
     ensures { λ r. ⌜ elim r [ Some c ↦ (c ≤ length (now (found .entry))) × Walked n (now (leads .entry)) (take c (now (found .exit))) c | None ↦ ((l : List Record) × (length l ≡ length (now (found .entry)) + 1) × Good n (now (leads .entry)) l) ] ⌝ }
 {
     let mut count = match offer(leads, found, 0, Monomial::one()) {
