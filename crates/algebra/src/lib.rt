@@ -2,6 +2,8 @@
 // forms, multiplication matrices, and bases shaped in one variable. There is no code but functions
 // that name theorems: a theorem counts because one of these promises it, and its statement stands in
 // specs/. A function may be added; what one promises may only be made stronger.
+#![tactic(auto)]
+
 ghost use Rattle.algebra.specs.Evaluation.{EvaluationHolds};
 ghost use Rattle.algebra.specs.Records.{RecordsHold, OrdersHold};
 ghost use Rattle.algebra.specs.Staircase.{StaircaseHolds};

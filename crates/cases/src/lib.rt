@@ -1,4 +1,6 @@
 // Examples by the dozen, run and compared: one module a room. Nothing else may live here.
+#![tactic(auto)]
+
 #[cfg(test)]
 mod columns;
 #[cfg(test)]

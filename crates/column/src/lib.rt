@@ -1,5 +1,7 @@
 // Column text: numbers in columns of eleven bytes, and lines of such columns.
 // Reads and writes bytes that the caller lends; allocates nothing, keeps nothing, and every call answers on every input.
+#![tactic(auto)]
+
 pub mod laws;
 mod line;
 mod number;

@@ -1,4 +1,6 @@
 // The working parts of Convert and Reduce over the tables of a closed job. Nothing here allocates.
+#![tactic(auto)]
+
 pub mod convert;
 mod powers;
 mod questions;

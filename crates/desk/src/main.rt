@@ -1,5 +1,7 @@
 // Desk: makes jobs over two fields and two orders, runs calls on them, accepted and refused, and
 // prints what each answered. What it prints is compared with a stored output.
+#![tactic(auto)]
+
 use field::{ByteField, Field, Residue};
 use job::{Job, JobFault, Term};
 use order::{Drl, Lex, Monomial, Order};

@@ -63,7 +63,7 @@ swap a b c d =
     ∙ ap (bit_xor a) (sym (xor_assoc b c d) ∙ ap (λ (x : ℕ). bit_xor x d) (xor_comm b c) ∙ xor_assoc c b d)
     ∙ sym (xor_assoc a c (bit_xor b d))
 
--- a digit byte_product a word
+-- a digit times a word
 digit_right : (d a b : ℕ) → d < 2 → d * bit_xor a b ≡ bit_xor (d * a) (d * b)
 digit_right zero a b h = simp zero-mul
 digit_right (suc zero) a b h = simp one-mul

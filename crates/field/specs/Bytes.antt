@@ -8,16 +8,16 @@
 --   ProductDivides        the product is the one byte that differs from the product of the polynomials by a multiple of the modulus
 --   ByteExamples          published products, sums and inverses
 -- Used by: the meaning of ByteField, at all words through `total`.
-use Rattle.std.specs.Prelude.{◌≡◌, ℕ, zero, suc, ◌+◌, ◌*◌, ◌/◌, ◌%◌, ◌^◌, ◌<◌, Some, bit-xor, nat_lt}
+use Rattle.std.specs.Prelude.{◌≡◌, ℕ, zero, suc, ◌+◌, ◌*◌, ◌/◌, ◌%◌, ◌^◌, ◌<◌, Some, bit_xor, nat_lt}
 use Rattle.field.specs.Meaning.{FieldMeaning, total}
 
 unfoldable pub poly_product : ℕ → ℕ → ℕ → ℕ
 poly_product zero a b = 0
-poly_product (suc k) a b = bit-xor (b % 2 * a) (poly_product k a (b / 2) * 2)
+poly_product (suc k) a b = bit_xor (b % 2 * a) (poly_product k a (b / 2) * 2)
 
 unfoldable pub poly_remainder : ℕ → ℕ → ℕ
 poly_remainder zero n = n
-poly_remainder (suc k) n = poly_remainder k (bit-xor n (n / 2 ^ (8 + k) % 2 * (283 * 2 ^ k)))
+poly_remainder (suc k) n = poly_remainder k (bit_xor n (n / 2 ^ (8 + k) % 2 * (283 * 2 ^ k)))
 
 unfoldable pub byte_product : ℕ → ℕ → ℕ
 byte_product a b = poly_remainder 7 (poly_product 8 a b)
@@ -40,7 +40,7 @@ bytes = record {
   elem = λ a. nat_lt a 256;
   zero = 0;
   one = 1;
-  add = bitXor;
+  add = bit_xor;
   mul = byte_product;
   neg = λ a. a;
   inv = λ a. Some (power_254 a);
@@ -48,8 +48,8 @@ bytes = record {
 
 pub record ProductDivides : Type 0 where
   pub some : (a b : ℕ) → a < 256 → b < 256
-      → (q : ℕ) × (q < 128) × (byte_product a b < 256) × (poly_product 8 a b ≡ bit-xor (poly_product 9 q 283) (byte_product a b))
-  pub one : (a b q r : ℕ) → q < 128 → r < 256 → poly_product 8 a b ≡ bit-xor (poly_product 9 q 283) r → r ≡ byte_product a b
+      → (q : ℕ) × (q < 128) × (byte_product a b < 256) × (poly_product 8 a b ≡ bit_xor (poly_product 9 q 283) (byte_product a b))
+  pub one : (a b q r : ℕ) → q < 128 → r < 256 → poly_product 8 a b ≡ bit_xor (poly_product 9 q 283) r → r ≡ byte_product a b
 
 pub record ByteExamples : Type 0 where
   pub sum : (total bytes).add 87 131 ≡ 212

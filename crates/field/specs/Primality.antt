@@ -48,9 +48,9 @@ pub record Tested (p : ℕ) : Type 0 where
 passes : (p : ℕ) → T (nat_lt 1 p) → T (nat_lt p 2147483648) → T (clear 16 2 p) → Tested p
 passes p a b t = record { above = ltb→lt 1 p a; below = ltb→lt p 2147483648 b; test = t }
 
-abbrev each : List ℕ → Type 0
-each [] = Unit {0}
-each (p ∷ ps) = Tested p × each ps
+abbrev Each : List ℕ → Type 0
+Each [] = Unit {0}
+Each (p ∷ ps) = Tested p × Each ps
 
 t2 : T (clear 16 2 2)
 unfolding clear
@@ -92,10 +92,10 @@ t2147483647 : T (clear 16 2 2147483647)
 unfolding clear
 t2147483647 = tt
 
-computed : each primes
+computed : Each primes
 computed = (passes 2 tt tt t2, (passes 3 tt tt t3, (passes 5 tt tt t5, (passes 7 tt tt t7, (passes 23 tt tt t23, (passes 251 tt tt t251, (passes 257 tt tt t257, (passes 32003 tt tt t32003, (passes 65521 tt tt t65521, (passes 2147483647 tt tt t2147483647, tt))))))))))
 
-at_each : (p : ℕ) (ps : List ℕ) → each ps → T (among p ps) → Tested p
+at_each : (p : ℕ) (ps : List ℕ) → Each ps → T (among p ps) → Tested p
 at_each p [] t h = absurd h
 at_each p (q ∷ ps) t h =
     either (p == q) (among p ps)

@@ -1,4 +1,4 @@
--- Inverses residues a number that no smaller number divides.
+-- Inverses modulo a number that no smaller number divides.
 use Rattle.std.specs.Prelude.{◌≡◌, ℕ, zero, suc, ◌+◌, ◌-◌, ◌*◌, ◌/◌, ◌%◌, ◌<◌, ◌≤◌, T, refl}
 use Rattle.std.proofs.Common.{sym, ap, ◌∙◌, subst, ⊎_elim, mul_comm, mul_assoc, mul-add, add-mul, mod-lt, mod-eq_of_lt, arith}
 use Rattle.std.proofs.Math.Path.{subst⁻¹}

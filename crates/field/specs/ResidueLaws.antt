@@ -22,7 +22,7 @@ assoc_mul p a b c =
     ap (λ x. x % p) (mul_comm ((a * b) % p) c) ∙ mul_mod c (a * b) p ∙ ap (λ x. x % p) (mul_comm c (a * b) ∙ nat.mul_assoc a b c) ∙ sym (mul_mod a (b * c) p)
 
 over_add : (p a b c : ℕ) → (a * ((b + c) % p)) % p ≡ ((a * b) % p + (a * c) % p) % p
-over_add p a b c = mul_mod a (b + c) p ∙ ap (λ x. x % p) (nat.mul_add a b c) ∙ nat.add-mod (a * b) (a * c) p
+over_add p a b c = mul_mod a (b + c) p ∙ ap (λ x. x % p) (nat.mul-add a b c) ∙ nat.add-mod (a * b) (a * c) p
 
 -- what the search finds
 Found : ℕ → ℕ → ℕ → Option ℕ → Type 0

@@ -1,6 +1,8 @@
-// Fields of words: what a field is (trait Field), the residues residues a listed prime, and the byte
+// Fields of words: what a field is (trait Field), the residues modulo a listed prime, and the byte
 // field. Everything above is proved for any field that keeps the laws, so their statement in
 // specs/Meaning.antt is the ground of the house; the two implementations may be touched freely.
+#![tactic(auto)]
+
 ghost use Rattle.std.specs.Prelude.{◌≡◌};
 ghost use Rattle.field.specs.Meaning.{FieldMeaning, FieldLaws, FieldTotal, OneInverse};
 

@@ -1,6 +1,8 @@
 // Runs the kernels of linear algebra over three fields on one small matrix each, and prints what they
 // answer: Krylov vectors by the matrix step, their sequence by the dot product, its least recurrence,
 // where the vectors first depend, and the coordinates of a vector solved from the Hankel table.
+#![tactic(auto)]
+
 ghost use Rattle.std.specs.Prelude.{◌≡◌, length};
 
 use field::{ByteField, Field, Residue};

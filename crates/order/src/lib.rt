@@ -1,5 +1,7 @@
 // Monomials and the orders that compare them: the trait `Order` with its meaning and its laws, the
 // orders `Drl` and `Lex`, and `Renumbered` over any order. Nothing here holds state.
+#![tactic(auto)]
+
 ghost use Rattle.std.specs.Prelude.{◌≡◌};
 ghost use Rattle.std.specs.declared.cmp.Ordering.{Ordering};
 ghost use Rattle.order.specs.declared.monomial.Monomial.{Monomial};

@@ -1,9 +1,10 @@
 // Orders that move the exponents before they compare. Only `Renumbered::new` makes one, so that each
 // holds a rearrangement.
-ghost use Rattle.std.specs.Prelude.{T};
+ghost use Rattle.std.specs.Prelude.{T, ◌≡◌, ⊤};
 ghost use Rattle.order.specs.Rearrangements.{rearranges};
 
 use crate::Rearrangement;
+use std::alloc::AllocError;
 
 pub mod making;
 
@@ -11,6 +12,16 @@ pub struct Renumbered<O> {
     below: O,
     rearrangement: Rearrangement,
     ghost ok: { T (rearranges rearrangement) },
+}
+
+impl<O: Copy> Clone for Renumbered<O> {
+    ghost is_clone = { λ x y. y ≡ x };
+
+    ghost is_infallible = { λ _. ⊤ };
+
+    fn clone(&self) -> Result<Renumbered<O>, AllocError> {
+        Ok(*self)
+    }
 }
 
 impl<O: Copy> Copy for Renumbered<O> {}

@@ -1,4 +1,6 @@
 // A question to a list of monomials under any order, answered by the order's laws.
+#![tactic(auto)]
+
 ghost use Rattle.std.specs.Prelude.{◌≡◌, length, Some, None};
 ghost use Rattle.order.specs.Laws.{Falling};
 ghost use Rattle.order_use.specs.Lists.{listed, unfalling};

@@ -1,6 +1,8 @@
 // Pace: reads a basis text in DRL from standard input and runs Fill, Close and Convert on it as often
 // as its three arguments say, so that a clock around it tells what each costs. Prints D and what the
 // last Convert answered.
+#![tactic(auto)]
+
 use field::{ByteField, Field, Residue};
 use job::Job;
 use order::Drl;

@@ -1,5 +1,7 @@
 // The polynomials that a job holds, what a job refuses, and the questions put to polynomials: those
 // before one is entered, and those about the leading monomials of all. Nothing here allocates.
+#![tactic(auto)]
+
 pub mod fault;
 pub mod leading;
 pub mod questions;

@@ -1,5 +1,7 @@
 // Probe: prints the values of a basis's polynomials at a point, or one refusal. This file only
 // carries bytes in and out; the answer is the function `answer_to` of the crate `evaluation`.
+#![tactic(auto)]
+
 ghost use Rattle.std.specs.Prelude.{◌≤◌, length, IfOk};
 
 use evaluation::answer_to;

@@ -2,6 +2,8 @@
 // runs of calls promise. There is no code but functions that name theorems: a theorem counts because
 // one of these promises it, and its statement stands in specs/. A function may be added; what one
 // promises may only be made stronger.
+#![tactic(auto)]
+
 ghost use Rattle.runs.specs.Sound.{SoundKept, SoundBasis};
 ghost use Rattle.runs.specs.Whole.{AnswersKeepWhole, OneAnswer, RunsWhole};
 ghost use Rattle.runs.specs.Writing.{TextsEnter, TextsReadBack, TextsWritten};

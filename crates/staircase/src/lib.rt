@@ -1,5 +1,7 @@
 // The staircase of leading monomials, its border and the places of the products, made over lent
 // lists of monomials under any order. Nothing here allocates or holds state.
+#![tactic(auto)]
+
 pub mod edges;
 pub mod products;
 pub mod rules;

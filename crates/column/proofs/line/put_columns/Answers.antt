@@ -9,9 +9,9 @@ loop-i-init c = written_none c.args.out.now c.args.words.now c.args.at
 
 pub loop-i-preserved : goal.loop-i-preserved
 loop-i-preserved c =
-    let word : Word (get_or c.args.words.now c.loop-i.i 0) = omega (arith, c.type-inv.words c.loop-i.i) in
-    written_more c.loop-i.out c.put-column.new.out c.args.out.now c.args.words.now c.args.at c.loop-i.i
-    (omega arith) c.loop-i-test.true word c.loop-i.invariant c.put-column.ensures
+    let word : Word (get_or c.args.words.now c.loop-i.i 0) = omega (arith, c.type_inv.words c.loop-i.i) in
+    written_more c.loop-i.out c.put_column.new.out c.args.out.now c.args.words.now c.args.at c.loop-i.i
+    (omega arith) c.loop-i-test.true word c.loop-i.invariant c.put_column.ensures
 
 pub returns : goal.returns
 returns c =

@@ -5,20 +5,20 @@ use Rattle.column.proofs.Exactness.{line_taken}
 use Rattle.column.proofs.Questions.{refused_answer, read_answer, reading_wrong_length, reading_not_a_number, reading_words}
 use Rattle.column.proofs.line.read_line.Goals as goal
 
-pub returns-then-not-ends-after : goal.returns-then-not-ends-after
-returns-then-not-ends-after c =
-    let e = reading_wrong_length (length c.args.words.now) (drop c.args.at c.args.bytes.now) (sym c.if-not-ends-after.ensures.test) in
+pub returns-then-not-ends_after : goal.returns-then-not-ends_after
+returns-then-not-ends_after c =
+    let e = reading_wrong_length (length c.args.words.now) (drop c.args.at c.args.bytes.now) (sym c.if-not-ends_after.ensures.test) in
     let p = refused_answer c.args.bytes.now c.args.at c.args.words.now WrongLength e in
-    record { place_after = p.0; words-taken = p.1; exact = line_taken c.args.bytes.now c.args.words.now c.args.words.now c.args.at (Err WrongLength) p.0 p.1 }
+    record { place_after = p.0; words_taken = p.1; exact = line_taken c.args.bytes.now c.args.words.now c.args.words.now c.args.at (Err WrongLength) p.0 p.1 }
 
-pub returns-then-not-all-numbers : goal.returns-then-not-all-numbers
-returns-then-not-all-numbers c =
-    let e = reading_not_a_number (length c.args.words.now) (drop c.args.at c.args.bytes.now) (sym c.if-not-ends-after.ensures.test) (sym c.if-not-all-numbers.ensures) in
+pub returns-then-not-all_numbers : goal.returns-then-not-all_numbers
+returns-then-not-all_numbers c =
+    let e = reading_not_a_number (length c.args.words.now) (drop c.args.at c.args.bytes.now) (sym c.if-not-ends_after.ensures.test) (sym c.if-not-all_numbers.ensures) in
     let p = refused_answer c.args.bytes.now c.args.at c.args.words.now NotANumber e in
-    record { place_after = p.0; words-taken = p.1; exact = line_taken c.args.bytes.now c.args.words.now c.args.words.now c.args.at (Err NotANumber) p.0 p.1 }
+    record { place_after = p.0; words_taken = p.1; exact = line_taken c.args.bytes.now c.args.words.now c.args.words.now c.args.at (Err NotANumber) p.0 p.1 }
 
 pub returns : goal.returns
 returns c =
-    let e = reading_words (length c.args.words.now) (drop c.args.at c.args.bytes.now) (sym c.if-not-ends-after.ensures.test) (sym c.if-not-all-numbers.ensures) in
-    let p = read_answer c.args.bytes.now c.args.at c.args.words.now c.take-words.new.words e c.take-words.ensures in
-    record { place_after = p.0; words-taken = p.1; exact = line_taken c.args.bytes.now c.args.words.now c.take-words.new.words c.args.at _ p.0 p.1 }
+    let e = reading_words (length c.args.words.now) (drop c.args.at c.args.bytes.now) (sym c.if-not-ends_after.ensures.test) (sym c.if-not-all_numbers.ensures) in
+    let p = read_answer c.args.bytes.now c.args.at c.args.words.now c.take_words.new.words e c.take_words.ensures in
+    record { place_after = p.0; words_taken = p.1; exact = line_taken c.args.bytes.now c.args.words.now c.take_words.new.words c.args.at _ p.0 p.1 }

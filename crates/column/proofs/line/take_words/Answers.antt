@@ -6,9 +6,9 @@ use Rattle.column.proofs.line.take_words.Goals as goal
 
 pub loop-i-preserved : goal.loop-i-preserved
 loop-i-preserved c =
-    let e = part_is_column c.args.bytes.now (c.args.at + 11 * c.loop-i.i) c.read-column.result c.read-column.ensures.value in
+    let e = part_is_column c.args.bytes.now (c.args.at + 11 * c.loop-i.i) c.read_column.result c.read_column.ensures.value in
     words_more c.args.bytes.now c.args.at (length c.args.words.now) c.loop-i.i c.loop-i-test.true
-    c.loop-i.words c.unwrap-or.result (omega arith) (c.unwrap-or.ensures ∙ ap (λ o. unwrap_or o 0) e)
+    c.loop-i.words c.unwrap_or.result (omega arith) (c.unwrap_or.ensures ∙ ap (λ o. unwrap_or o 0) e)
     ∙ c.loop-i.invariant
 
 pub returns : goal.returns

@@ -5,5 +5,5 @@ use Rattle.column.proofs.number.fill_column.Goals as goal
 
 pub returns : goal.returns
 returns c =
-    column_filled c.put-digits-place.new.part c.fill.new.self c.put-digits-place.result c.args.number (omega arith)
-    c.put-digits-place.ensures.place c.put-digits-place.ensures.digits (c.fill.ensures.after (λ y e. e))
+    column_filled c.put_digits-place.new.part c.fill.new.self c.put_digits-place.result c.args.number (omega arith)
+    c.put_digits-place.ensures.place c.put_digits-place.ensures.digits (c.fill.ensures.after (λ y e. e))

@@ -7,6 +7,6 @@ use Rattle.column.proofs.number.put_column.Goals as goal
 
 pub returns : goal.returns
 returns c =
-    put_from_part c.args.out.now (column c.args.number) c.fill-column.new.part c.args.at (c.args.at + 11 - c.args.at)
-    c.fill-column.ensures
+    put_from_part c.args.out.now (column c.args.number) c.fill_column.new.part c.args.at (c.args.at + 11 - c.args.at)
+    c.fill_column.ensures
     (omega (arith, column_length c.args.number (omega arith)))

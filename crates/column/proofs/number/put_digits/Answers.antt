@@ -6,16 +6,16 @@ use Rattle.column.proofs.number.put_digits.Goals as goal
 pub loop-rest-init : goal.loop-rest-init
 loop-rest-init c = spelled_none c.args.part.now c.args.number c.requires
 
-pub overflow-sub-place : goal.overflow-sub-place
-overflow-sub-place c =
+pub overflow_sub-place : goal.overflow_sub-place
+overflow_sub-place c =
     omega (arith, spelled_room c.loop-rest.part c.loop-rest.place c.args.number c.loop-rest.rest (omega arith) (omega arith) c.loop-rest.invariant)
 
 pub loop-rest-preserved : goal.loop-rest-preserved
 loop-rest-preserved c =
     spelled_more c.loop-rest.part c.loop-rest.place c.args.number c.loop-rest.rest (omega arith) (omega arith) c.loop-rest.invariant (omega arith)
 
-pub overflow-sub-place-2 : goal.overflow-sub-place-2
-overflow-sub-place-2 c =
+pub overflow_sub-place-2 : goal.overflow_sub-place-2
+overflow_sub-place-2 c =
     omega (arith, spelled_room c.loop-rest.part c.loop-rest.place c.args.number c.loop-rest.rest (omega arith) (omega arith) c.loop-rest.invariant)
 
 pub returns : goal.returns

@@ -4,8 +4,8 @@ use Rattle.field.specs.Primality.{tested, no_divisor}
 use Rattle.field.specs.ResidueInverse.{step}
 use Rattle.field.proofs.residue.field.+inverse_modulo.Goals as goal
 
-pub inverse-modulo-s-requires : goal.inverse-modulo-s-requires
-inverse-modulo-s-requires t c =
+pub inverse_modulo-s-requires : goal.inverse_modulo-s-requires
+inverse_modulo-s-requires t c =
     let p = c.args.p in
     let a = c.args.a in
     let prime = tested p c.requires.prime in
@@ -22,4 +22,4 @@ returns-then-a-eq1 t c =
 pub returns-else-a-eq1 : goal.returns-else-a-eq1
 returns-else-a-eq1 t c =
     let pos : 0 < c.args.p = omega arith in
-    (mod-lt _ pos, step c.args.p c.args.a c.inverse-modulo-s.result pos (omega arith) c.inverse-modulo-s.ensures.1)
+    (mod-lt _ pos, step c.args.p c.args.a c.inverse_modulo-s.result pos (omega arith) c.inverse_modulo-s.ensures.1)

@@ -1,4 +1,4 @@
 use Rattle.field.proofs.residue.field.+inverse_modulo.Given as goal
 
-abbrev pub decreases-inverse-modulo : goal.decreases-inverse-modulo
-decreases-inverse-modulo l = l.a
+abbrev pub decreases-inverse_modulo : goal.decreases-inverse_modulo
+decreases-inverse_modulo l = l.a

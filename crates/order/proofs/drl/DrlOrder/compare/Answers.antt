@@ -11,7 +11,7 @@ returns-in-Less c = record {
 
 pub returns-in-Equal : goal.returns-in-Equal
 returns-in-Equal c = record {
-  answer = c.at-lowest.ensures ∙ sym (drl_by_degree c.args.a c.args.b _ _ c.degree.ensures.value c.degree-2.ensures.value Equal (number_same _ _ c.in-Equal.ensures));
+  answer = c.at_lowest.ensures ∙ sym (drl_by_degree c.args.a c.args.b _ _ c.degree.ensures.value c.degree-2.ensures.value Equal (number_same _ _ c.in-Equal.ensures));
   small = (c.degree.ensures.small, c.degree-2.ensures.small);
 }
 

@@ -19,5 +19,5 @@ pub returns-in-3 : goal.returns-in-3
 unfolding with_exponent monomial exponent
 returns-in-3 c = ap (λ k. with_exponent k c.args.e c.args.self) (sym c.in-3.is)
 
-pub returns-in-default : goal.returns-in-default
-returns-in-default c = sym (with_past c.args.k c.args.e c.args.self (omega arith))
+pub returns-in_default : goal.returns-in_default
+returns-in_default c = sym (with_past c.args.k c.args.e c.args.self (omega arith))

@@ -19,6 +19,6 @@ pub returns-in-4 : goal.returns-in-4
 unfolding reversal rearrangement
 returns-in-4 c = ap Some c.places-in-4.ensures ∙ ap reversal (sym c.in-4.is)
 
-pub returns-in-default : goal.returns-in-default
+pub returns-in_default : goal.returns-in_default
 unfolding reversal
-returns-in-default c = grind (arith, nat_tests)
+returns-in_default c = grind (arith, nat_tests)

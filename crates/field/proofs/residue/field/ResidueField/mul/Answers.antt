@@ -2,11 +2,11 @@ use Rattle.std.proofs.Common.{◌+◌, ◌*◌, ◌<◌, ◌≤◌, mod-lt, arit
 use Rattle.field.specs.Primality.{tested}
 use Rattle.field.proofs.residue.field.ResidueField.mul.Goals as goal
 
-pub nonzero-rem-result : goal.nonzero-rem-result
-nonzero-rem-result c = let t = tested _ c.args.self.now.prime in omega arith
+pub nonzero_rem-result : goal.nonzero_rem-result
+nonzero_rem-result c = let t = tested _ c.args.self.now.prime in omega arith
 
-pub overflow-cast-result-then-b-self-3 : goal.overflow-cast-result-then-b-self-3
-overflow-cast-result-then-b-self-3 c =
+pub overflow_cast-result-then-b-self-3 : goal.overflow_cast-result-then-b-self-3
+overflow_cast-result-then-b-self-3 c =
     let p = c.args.self.now.p in
     let t = tested p c.args.self.now.prime in
     let pos : 0 < p = omega arith in
