@@ -4,7 +4,7 @@ use Rattle.std.specs.declared.cmp.Ordering.TheVariants.{Less, Equal, Greater}
 use Rattle.std.specs.declared.cmp.Ordering.{Ordering}
 use Rattle.std.proofs.Common.{sym, ◌∙◌, ap, ap₂, inl, inr, arith}
 use Rattle.std.proofs.lemmas.Bool.Decides.{nat_tests}
-use Rattle.std.specs.Ordering.{ordering_reverse, ordering_then}
+use Rattle.std.specs.Ordering.{ordering_reverse, ordering_then, nat_cmp}
 use Rattle.order.specs.Orders.{number}
 
 pub number_self : (x : ℕ) → number x x ≡ Equal
@@ -24,6 +24,9 @@ number_lt x y h = grind (arith, nat_tests)
 
 pub number_gt : (x y : ℕ) → y < x → number x y ≡ Greater
 number_gt x y h = grind (arith, nat_tests)
+
+pub number_cmp : (x y : ℕ) → number x y ≡ nat_cmp x y
+number_cmp x y = grind (arith, nat_tests)
 
 pub number_exchanged : (x y : ℕ) → number y x ≡ ordering_reverse (number x y)
 number_exchanged x y = grind (arith, nat_tests)
