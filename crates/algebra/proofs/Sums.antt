@@ -8,7 +8,7 @@ use Rattle.algebra.specs.Vector.{sum, basis}
 use Rattle.algebra.proofs.Laws as field
 
 module _ {K : Type 0} (F : Field K) where
-  open F use {zer, one, ◌⊕◌, ◌⊗◌, neg, add_assoc, add_comm, add-zero, mul_one, distrib}
+  open F use {zer, one, ◌⊕◌, ◌⊗◌, neg, add_assoc, add_comm, add_zero, mul_one, distrib}
 
   infixl 65 ◌⊕◌
   infixl 70 ◌⊗◌
@@ -18,10 +18,10 @@ module _ {K : Type 0} (F : Field K) where
 
   pub sum_zero : (n : ℕ) (f : ℕ → K) → ((i : ℕ) → i < n → f i ≡ zer) → sum F n f ≡ zer
   sum_zero zero f h = refl
-  sum_zero (suc n) f h = ap₂ (λ x y. x ⊕ y) (sum_zero n f (λ i l. h i (omega arith))) (h n (omega arith)) ∙ add-zero zer
+  sum_zero (suc n) f h = ap₂ (λ x y. x ⊕ y) (sum_zero n f (λ i l. h i (omega arith))) (h n (omega arith)) ∙ add_zero zer
 
   pub sum_add : (n : ℕ) (f g : ℕ → K) → sum F n (λ i. f i ⊕ g i) ≡ sum F n f ⊕ sum F n g
-  sum_add zero f g = sym (add-zero zer)
+  sum_add zero f g = sym (add_zero zer)
   sum_add (suc n) f g = simp (sum_add n f g, add_assoc, field.add_left_comm F, add_comm)
 
   pub sum_scale : (n : ℕ) (a : K) (f : ℕ → K) → sum F n (λ i. a ⊗ f i) ≡ a ⊗ sum F n f
@@ -40,7 +40,7 @@ module _ {K : Type 0} (F : Field K) where
   sum_swap (suc n) m f = ap (λ x. x ⊕ sum F m (λ j. f n j)) (sum_swap n m f) ∙ sym (sum_add m (λ j. sum F n (λ i. f i j)) (f n))
 
   pub sum_split : (n m : ℕ) (f : ℕ → K) → sum F (n + m) f ≡ sum F n f ⊕ sum F m (λ i. f (n + i))
-  sum_split n zero f = rw plus-zero (sym (add-zero _))
+  sum_split n zero f = rw plus-zero (sym (add_zero _))
   sum_split n (suc m) f = rw add-suc (ap (λ x. x ⊕ f (n + m)) (sum_split n m f) ∙ add_assoc _ _ _)
 
   pub sum_head : (n : ℕ) (f : ℕ → K) → sum F (suc n) f ≡ f 0 ⊕ sum F n (λ i. f (suc i))
@@ -53,7 +53,7 @@ module _ {K : Type 0} (F : Field K) where
       ap (λ k. sum F k f) {x = n} {y = d + (n - d)} (omega arith)
       ∙ sum_split d (n - d) f
       ∙ ap (λ z. sum F d f ⊕ z) (sum_zero (n - d) _ (λ i m. h (d + i) (omega arith) (omega arith)))
-      ∙ add-zero _
+      ∙ add_zero _
 
   pub basis_same : (i : ℕ) → basis F i i ≡ one
   basis_same i = ap (λ b. cond b one zer) (eq-eqb i i refl)
@@ -75,7 +75,7 @@ module _ {K : Type 0} (F : Field K) where
     where
       go : Dec (n ≡ p) → (p < n → sum F n f ≡ f p) → sum F (suc n) f ≡ f p
       go (yes e) ih = ap₂ (λ x y. x ⊕ y) (sum_zero n f (λ i k. h i (omega arith) (omega arith))) (ap f e) ∙ field.zero_add F _
-      go (no e) ih = ap₂ (λ x y. x ⊕ y) (ih (omega arith)) (h n (omega arith) e) ∙ add-zero _
+      go (no e) ih = ap₂ (λ x y. x ⊕ y) (ih (omega arith)) (h n (omega arith) e) ∙ add_zero _
 
   pub sum_basis : (n p : ℕ) (f : ℕ → K) → p < n → sum F n (λ i. f i ⊗ basis F p i) ≡ f p
   sum_basis n p f l =

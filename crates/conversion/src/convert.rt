@@ -27,7 +27,7 @@ pub fn convert<F: Field>(
 ) -> Result<(), JobFault>
     ensures refused_as_was { elim result [ Ok _ ↦ Unit {0} | Err _ ↦ out.new ≡ out.old ] }
     ensures rest_unchanged { drop (n * tables.now.size) out.new ≡ drop (n * tables.now.size) out.old }
-    ensures answered { (laws : FieldLaws (meaning field.now)) (cmp : Comparison) (ps : List (List Term)) → OrderLaws cmp → Sound (meaning field.now) laws cmp (closed_job n ps) → Holds (meaning field.now) laws cmp n ps tables.now → Converted (meaning field.now) laws cmp n ps k r.now (length out.old) (take (n * tables.now.size) out.new) result }
+    ensures answered { (laws : FieldLaws (F.Field.meaning field.now)) (cmp : Comparison) (ps : List (List Term)) → OrderLaws cmp → Sound (F.Field.meaning field.now) laws cmp (closed_job n ps) → Holds (F.Field.meaning field.now) laws cmp n ps tables.now → Converted (F.Field.meaning field.now) laws cmp n ps k r.now (length out.old) (take (n * tables.now.size) out.new) result }
 {
     if n > Monomial::VARIABLES {
         return Err(JobFault::Variables);

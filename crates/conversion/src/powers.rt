@@ -15,7 +15,7 @@ pub(crate) const WIDTH: usize = 48;
 
 // The unit vector of place 0.
 pub(crate) fn put_unit<F: Field>(field: &F, vector: &mut [u32])
-    ensures { (laws : FieldLaws (meaning field.now)) → Stands (meaning field.now) (length vector.old) vector.new (unit (meaning field.now) laws) }
+    ensures { (laws : FieldLaws (F.Field.meaning field.now)) → Stands (F.Field.meaning field.now) (length vector.old) vector.new (unit (F.Field.meaning field.now) laws) }
 {
     for j in 0..vector.len() {
         vector[j] = if j == 0 { field.one() } else { field.zero() };
@@ -32,7 +32,7 @@ pub(crate) fn advance<F: Field>(
 ) -> bool
     requires room { (length vector.old ≡ width) × (length next.old ≡ width) }
     ensures can { CanStep tables.now k result }
-    ensures advanced { T result → (laws : FieldLaws (meaning field.now)) (f : ℕ → Elem (meaning field.now)) → Stands (meaning field.now) tables.now.size vector.old f → Stands (meaning field.now) tables.now.size vector.new (map_of (meaning field.now) laws tables.now k f) }
+    ensures advanced { T result → (laws : FieldLaws (F.Field.meaning field.now)) (f : ℕ → Elem (F.Field.meaning field.now)) → Stands (F.Field.meaning field.now) tables.now.size vector.old f → Stands (F.Field.meaning field.now) tables.now.size vector.new (map_of (F.Field.meaning field.now) laws tables.now k f) }
 {
     if !tables.step(field, k, vector, next) {
         return false;
@@ -55,7 +55,7 @@ pub(crate) fn measure<F: Field>(
     requires room { (length vector.old ≡ width) × (length next.old ≡ width) }
     requires exact { length r.now ≡ tables.now.size }
     ensures can { CanStep tables.now k result }
-    ensures measured { T result → (laws : FieldLaws (meaning field.now)) (f : ℕ → Elem (meaning field.now)) → Stands (meaning field.now) tables.now.size vector.old f → Stands (meaning field.now) (length out.old) out.new (measure (meaning field.now) laws tables.now k r.now f) }
+    ensures measured { T result → (laws : FieldLaws (F.Field.meaning field.now)) (f : ℕ → Elem (F.Field.meaning field.now)) → Stands (F.Field.meaning field.now) tables.now.size vector.old f → Stands (F.Field.meaning field.now) (length out.old) out.new (measure (F.Field.meaning field.now) laws tables.now k r.now f) }
 {
     for j in 0..out.len() {
         out[j] = dot(field, r, vector);
@@ -82,9 +82,9 @@ pub(crate) fn krylov<F: Field>(
     requires all { (length vectors.old ≡ width * width) × (width ≤ length words.old) }
     requires exact { length r.now ≡ tables.now.size }
     ensures can { CanStep tables.now k result }
-    ensures vectors { T result → (laws : FieldLaws (meaning field.now)) → Vectors (meaning field.now) laws tables.now k vectors.new }
-    ensures words { T result → (laws : FieldLaws (meaning field.now)) → Stands (meaning field.now) tables.now.size words.new (measure (meaning field.now) laws tables.now k r.now (unit (meaning field.now) laws)) }
-    ensures next { T result → (laws : FieldLaws (meaning field.now)) → Stands (meaning field.now) tables.now.size vector.new (power (meaning field.now) laws tables.now k (unit (meaning field.now) laws) tables.now.size) }
+    ensures vectors { T result → (laws : FieldLaws (F.Field.meaning field.now)) → Vectors (F.Field.meaning field.now) laws tables.now k vectors.new }
+    ensures words { T result → (laws : FieldLaws (F.Field.meaning field.now)) → Stands (F.Field.meaning field.now) tables.now.size words.new (measure (F.Field.meaning field.now) laws tables.now k r.now (unit (F.Field.meaning field.now) laws)) }
+    ensures next { T result → (laws : FieldLaws (F.Field.meaning field.now)) → Stands (F.Field.meaning field.now) tables.now.size vector.new (power (F.Field.meaning field.now) laws tables.now k (unit (F.Field.meaning field.now) laws) tables.now.size) }
 {
     let d = tables.size();
     put_unit(field, vector);

@@ -17,7 +17,7 @@ use polynomials::JobFault;
 
 // The first of the words that is no element, from 1.
 fn first_no_element<F: Field>(field: &F, words: &[u32]) -> Option<usize>
-    ensures { elim result [ Some p ↦ ((i : ℕ) × (i < length words.now) × (p ≡ suc i) × (T ((meaning field.now).elem (slice_index words.now i)) → ⊥) × ((j : ℕ) → j < i → T ((meaning field.now).elem (slice_index words.now j)))) | None ↦ ((i : ℕ) → i < length words.now → T ((meaning field.now).elem (slice_index words.now i))) ] }
+    ensures { elim result [ Some p ↦ ((i : ℕ) × (i < length words.now) × (p ≡ suc i) × (T ((F.Field.meaning field.now).elem (slice_index words.now i)) → ⊥) × ((j : ℕ) → j < i → T ((F.Field.meaning field.now).elem (slice_index words.now j)))) | None ↦ ((i : ℕ) → i < length words.now → T ((F.Field.meaning field.now).elem (slice_index words.now i))) ] }
 {
     for i in 0..words.len() {
         if !field.contains(words[i]) {
@@ -37,7 +37,7 @@ pub(crate) fn ask_vector<F: Field>(
     room: usize,
 ) -> Result<(), JobFault>
     requires few { (d ≤ width) × (n ≤ variables) }
-    ensures { Asked 0 (vector_words_asks (meaning field.now) d n k r.now room) result }
+    ensures { Asked 0 (vector_words_asks (F.Field.meaning field.now) d n k r.now room) result }
 {
     if k == 0 {
         return Err(JobFault::NoVariable);
@@ -71,7 +71,7 @@ pub(crate) fn ask_independent<F: Field>(
     requires table { length table.old ≡ width * elimination.pitch }
     requires pivots { length pivots.old ≡ width }
     requires row { length row.old ≡ elimination.pitch }
-    ensures { (laws : FieldLaws (meaning field.now)) → Elems (meaning field.now) vectors.now → ShapeFound (meaning field.now) laws d (elimination.rows (meaning field.now) laws width vectors.now) result }
+    ensures { (laws : FieldLaws (F.Field.meaning field.now)) → Elems (F.Field.meaning field.now) vectors.now → ShapeFound (F.Field.meaning field.now) laws d (elimination.rows (F.Field.meaning field.now) laws width vectors.now) result }
 {
     let family = Family {
         words: vectors,
@@ -99,7 +99,7 @@ pub(crate) fn ask_length<F: Field>(
     requires words { length sequence.now ≡ width + width }
     requires polynomial { length connection.old ≡ width + width + 1 }
     requires work { (length previous.old ≡ width + width + 1) × (length spare.old ≡ width + width + 1) }
-    ensures { (laws : FieldLaws (meaning field.now)) (s : ℕ → Elem (meaning field.now)) → Stands (meaning field.now) (d + d) sequence.now s → LengthFound (meaning field.now) laws d s connection.new result }
+    ensures { (laws : FieldLaws (F.Field.meaning field.now)) (s : ℕ → Elem (F.Field.meaning field.now)) → Stands (F.Field.meaning field.now) (d + d) sequence.now s → LengthFound (F.Field.meaning field.now) laws d s connection.new result }
 {
     match recurrence_length(field, &sequence[0..d + d], connection, previous, spare) {
         Some(l) => {

@@ -35,7 +35,7 @@ pub fn reduce<F: Field>(
 ) -> Result<(), JobFault>
     ensures refused_as_was { elim result [ Ok _ ↦ Unit {0} | Err _ ↦ out.new ≡ out.old ] }
     ensures rest_unchanged { drop tables.now.size out.new ≡ drop tables.now.size out.old }
-    ensures answered { (laws : FieldLaws (meaning field.now)) (cmp : Comparison) (ps : List (List job.Term)) → OrderLaws cmp → Sound (meaning field.now) laws cmp (closed_job n ps) → Holds (meaning field.now) laws cmp n ps tables.now → Reduces (meaning field.now) laws cmp n ps (terms_of terms.now) (length out.old) (take tables.now.size out.new) result }
+    ensures answered { (laws : FieldLaws (F.Field.meaning field.now)) (cmp : Comparison) (ps : List (List job.Term)) → OrderLaws cmp → Sound (F.Field.meaning field.now) laws cmp (closed_job n ps) → Holds (F.Field.meaning field.now) laws cmp n ps tables.now → Reduces (F.Field.meaning field.now) laws cmp n ps (terms_of terms.now) (length out.old) (take tables.now.size out.new) result }
 {
     let d = tables.size();
     if out.len() < d {

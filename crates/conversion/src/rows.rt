@@ -30,7 +30,7 @@ fn right_side<F: Field>(
     requires room { (length vector.old ≡ width) × (length next.old ≡ width) }
     requires exact { length r.now ≡ tables.now.size }
     ensures can { (n : ℕ) → n ≤ variables → i < n → k < n → Ready tables.now n → T result }
-    ensures measured { T result → i ≢ k → (laws : FieldLaws (meaning field.now)) → Stands (meaning field.now) (length out.old) out.new (measure (meaning field.now) laws tables.now k r.now (map_of (meaning field.now) laws tables.now i (unit (meaning field.now) laws))) }
+    ensures measured { T result → i ≢ k → (laws : FieldLaws (F.Field.meaning field.now)) → Stands (F.Field.meaning field.now) (length out.old) out.new (measure (F.Field.meaning field.now) laws tables.now k r.now (map_of (F.Field.meaning field.now) laws tables.now i (unit (F.Field.meaning field.now) laws))) }
 {
     if i == k {
         return true;
@@ -58,7 +58,7 @@ pub(crate) fn right_sides<F: Field>(
     requires all { length sides.old ≡ variables * width }
     requires exact { length r.now ≡ tables.now.size }
     ensures can { k < n → Ready tables.now n → T result }
-    ensures measured { T result → (laws : FieldLaws (meaning field.now)) (i : ℕ) → i < n → i ≢ k → StandsAt (meaning field.now) tables.now.size (i * width) sides.new (measure (meaning field.now) laws tables.now k r.now (map_of (meaning field.now) laws tables.now i (unit (meaning field.now) laws))) }
+    ensures measured { T result → (laws : FieldLaws (F.Field.meaning field.now)) (i : ℕ) → i < n → i ≢ k → StandsAt (F.Field.meaning field.now) tables.now.size (i * width) sides.new (measure (F.Field.meaning field.now) laws tables.now k r.now (map_of (F.Field.meaning field.now) laws tables.now i (unit (F.Field.meaning field.now) laws))) }
 {
     let d = tables.size();
     for i in 0..n {
@@ -85,7 +85,7 @@ pub(crate) fn take_table<F: Field>(
     requires table { length table.old ≡ width * elimination.pitch }
     requires pivots { length pivots.old ≡ width }
     requires row { length row.old ≡ elimination.pitch }
-    ensures { (laws : FieldLaws (meaning field.now)) (s : ℕ → Elem (meaning field.now)) → Stands (meaning field.now) (d + d) sequence.now s → Independent (field_of (meaning field.now) laws) d d (hankel (field_of (meaning field.now) laws) s) → elimination.Table (meaning field.now) laws d d (elimination.rows (meaning field.now) laws 1 (take (d + d) sequence.now)) table.new pivots.new }
+    ensures { (laws : FieldLaws (F.Field.meaning field.now)) (s : ℕ → Elem (F.Field.meaning field.now)) → Stands (F.Field.meaning field.now) (d + d) sequence.now s → Independent (field_of (F.Field.meaning field.now) laws) d d (hankel (field_of (F.Field.meaning field.now) laws) s) → elimination.Table (F.Field.meaning field.now) laws d d (elimination.rows (F.Field.meaning field.now) laws 1 (take (d + d) sequence.now)) table.new pivots.new }
 {
     let family = Family {
         words: &sequence[0..d + d],
@@ -126,7 +126,7 @@ fn write_row<F: Field>(
     requires table { length table.now ≡ width * elimination.pitch }
     requires pivots { length pivots.now ≡ width }
     requires row { length row.old ≡ elimination.pitch }
-    ensures { (laws : FieldLaws (meaning field.now)) (v : ℕ → ℕ → Elem (meaning field.now)) (b : ℕ → Elem (meaning field.now)) → elimination.Table (meaning field.now) laws (length out.old) (length out.old) v table.now pivots.now → (i ≢ k → StandsAt (meaning field.now) (length out.old) (i * width) sides.now b) → Row (meaning field.now) laws (length out.old) v connection.now b i k (λ l. slice_index out.new l) }
+    ensures { (laws : FieldLaws (F.Field.meaning field.now)) (v : ℕ → ℕ → Elem (F.Field.meaning field.now)) (b : ℕ → Elem (F.Field.meaning field.now)) → elimination.Table (F.Field.meaning field.now) laws (length out.old) (length out.old) v table.now pivots.now → (i ≢ k → StandsAt (F.Field.meaning field.now) (length out.old) (i * width) sides.now b) → Row (F.Field.meaning field.now) laws (length out.old) v connection.now b i k (λ l. slice_index out.new l) }
 {
     if i == k {
         put_backwards(connection, out);
@@ -158,7 +158,7 @@ pub(crate) fn write_rows<F: Field>(
     requires pivots { length pivots.now ≡ width }
     requires row { length row.old ≡ elimination.pitch }
     ensures rest_unchanged { drop (n * d) out.new ≡ drop (n * d) out.old }
-    ensures rows { (laws : FieldLaws (meaning field.now)) (v : ℕ → ℕ → Elem (meaning field.now)) (b : ℕ → ℕ → Elem (meaning field.now)) → elimination.Table (meaning field.now) laws d d v table.now pivots.now → ((i : ℕ) → i < n → i ≢ k → StandsAt (meaning field.now) d (i * width) sides.now (b i)) → (i : ℕ) → i < n → Row (meaning field.now) laws d v connection.now (b i) i k (λ l. slice_index out.new (i * d + l)) }
+    ensures rows { (laws : FieldLaws (F.Field.meaning field.now)) (v : ℕ → ℕ → Elem (F.Field.meaning field.now)) (b : ℕ → ℕ → Elem (F.Field.meaning field.now)) → elimination.Table (F.Field.meaning field.now) laws d d v table.now pivots.now → ((i : ℕ) → i < n → i ≢ k → StandsAt (F.Field.meaning field.now) d (i * width) sides.now (b i)) → (i : ℕ) → i < n → Row (F.Field.meaning field.now) laws d v connection.now (b i) i k (λ l. slice_index out.new (i * d + l)) }
 {
     for i in 0..n {
         write_row(

@@ -26,7 +26,7 @@ fn raise<F: Field>(
 ) -> bool
     requires room { (length vector.old ≡ width) × (length next.old ≡ width) }
     ensures can { CanStep tables.now k result }
-    ensures raised { T result → (laws : FieldLaws (meaning field.now)) (f : ℕ → Elem (meaning field.now)) → Stands (meaning field.now) tables.now.size vector.old f → Stands (meaning field.now) tables.now.size vector.new (power (meaning field.now) laws tables.now k f e) }
+    ensures raised { T result → (laws : FieldLaws (F.Field.meaning field.now)) (f : ℕ → Elem (F.Field.meaning field.now)) → Stands (F.Field.meaning field.now) tables.now.size vector.old f → Stands (F.Field.meaning field.now) tables.now.size vector.new (power (F.Field.meaning field.now) laws tables.now k f e) }
 {
     for _i in 0..e {
         if !advance(field, tables, k, vector, next) {
@@ -49,7 +49,7 @@ fn act<F: Field>(
     requires few { n ≤ variables }
     requires room { (length vector.old ≡ width) × (length next.old ≡ width) }
     ensures can { Ready tables.now n → T result }
-    ensures acted { T result → (laws : FieldLaws (meaning field.now)) (f : ℕ → Elem (meaning field.now)) → Stands (meaning field.now) tables.now.size vector.old f → Stands (meaning field.now) tables.now.size vector.new (acts (meaning field.now) laws tables.now n monomial f) }
+    ensures acted { T result → (laws : FieldLaws (F.Field.meaning field.now)) (f : ℕ → Elem (F.Field.meaning field.now)) → Stands (F.Field.meaning field.now) tables.now.size vector.old f → Stands (F.Field.meaning field.now) tables.now.size vector.new (acts (F.Field.meaning field.now) laws tables.now n monomial f) }
 {
     for k in (0..n).rev() {
         let e = monomial.exponent(k);
@@ -73,7 +73,7 @@ fn add_term<F: Field>(
     requires few { n ≤ variables }
     requires room { (length vector.old ≡ width) × ((length next.old ≡ width) × (length sum.old ≡ width)) }
     ensures can { Ready tables.now n → T result }
-    ensures added { T result → (laws : FieldLaws (meaning field.now)) (s : ℕ → Elem (meaning field.now)) → Stands (meaning field.now) tables.now.size sum.old s → Stands (meaning field.now) tables.now.size sum.new (λ j. (field_of (meaning field.now) laws).◌⊕◌ (s j) ((field_of (meaning field.now) laws).◌⊗◌ (el (meaning field.now) laws term.coefficient) (acts (meaning field.now) laws tables.now n term.monomial (unit (meaning field.now) laws) j))) }
+    ensures added { T result → (laws : FieldLaws (F.Field.meaning field.now)) (s : ℕ → Elem (F.Field.meaning field.now)) → Stands (F.Field.meaning field.now) tables.now.size sum.old s → Stands (F.Field.meaning field.now) tables.now.size sum.new (λ j. (field_of (F.Field.meaning field.now) laws).◌⊕◌ (s j) ((field_of (F.Field.meaning field.now) laws).◌⊗◌ (el (F.Field.meaning field.now) laws term.coefficient) (acts (F.Field.meaning field.now) laws tables.now n term.monomial (unit (F.Field.meaning field.now) laws) j))) }
 {
     put_unit(field, vector);
     if !act(field, tables, n, term.monomial, vector, next) {
@@ -96,7 +96,7 @@ pub(crate) fn evaluate<F: Field>(
     requires few { n ≤ variables }
     requires room { (length vector.old ≡ width) × ((length next.old ≡ width) × (length sum.old ≡ width)) }
     ensures can { Ready tables.now n → T result }
-    ensures evaluated { T result → (laws : FieldLaws (meaning field.now)) → Stands (meaning field.now) tables.now.size sum.new (value_of (meaning field.now) laws tables.now n terms.now) }
+    ensures evaluated { T result → (laws : FieldLaws (F.Field.meaning field.now)) → Stands (F.Field.meaning field.now) tables.now.size sum.new (value_of (F.Field.meaning field.now) laws tables.now n terms.now) }
 {
     sum.fill(field.zero());
     for i in (0..terms.len()).rev() {

@@ -47,7 +47,7 @@ fn measure_on<F: Field>(
     requires words { length sequence.old ≡ width + width }
     requires exact { length r.now ≡ tables.now.size }
     ensures can { CanStep tables.now k result }
-    ensures measured { T result → (laws : FieldLaws (meaning field.now)) → Half (meaning field.now) laws tables.now k r.now sequence.old vector.old → Whole (meaning field.now) laws tables.now k r.now sequence.new }
+    ensures measured { T result → (laws : FieldLaws (F.Field.meaning field.now)) → Half (F.Field.meaning field.now) laws tables.now k r.now sequence.old vector.old → Whole (F.Field.meaning field.now) laws tables.now k r.now sequence.new }
 {
     let d = tables.size();
     let half = &mut sequence[d..d + d];
@@ -80,7 +80,7 @@ impl Work {
         r: &[u32],
     ) -> Result<(), JobFault>
         requires exact { length r.now ≡ tables.now.size }
-        ensures { (laws : FieldLaws (meaning field.now)) → ShapeAsked (meaning field.now) laws tables.now k r.now self.new.sequence self.new.vector result }
+        ensures { (laws : FieldLaws (F.Field.meaning field.now)) → ShapeAsked (F.Field.meaning field.now) laws tables.now k r.now self.new.sequence self.new.vector result }
     {
         if !krylov(
             field,
@@ -113,7 +113,7 @@ impl Work {
         r: &[u32],
     ) -> Result<(), JobFault>
         requires exact { length r.now ≡ tables.now.size }
-        ensures { (laws : FieldLaws (meaning field.now)) → Half (meaning field.now) laws tables.now k r.now self.old.sequence self.old.vector → RowsAsked (meaning field.now) laws tables.now k r.now self.new.sequence self.new.connection result }
+        ensures { (laws : FieldLaws (F.Field.meaning field.now)) → Half (F.Field.meaning field.now) laws tables.now k r.now self.old.sequence self.old.vector → RowsAsked (F.Field.meaning field.now) laws tables.now k r.now self.new.sequence self.new.connection result }
     {
         if !measure_on(
             field,
@@ -151,7 +151,7 @@ impl Work {
         requires fits { n * tables.now.size ≤ length out.old }
         ensures refused_as_was { elim result [ Ok _ ↦ Unit {0} | Err _ ↦ out.new ≡ out.old ] }
         ensures rest_unchanged { drop (n * tables.now.size) out.new ≡ drop (n * tables.now.size) out.old }
-        ensures rows { (laws : FieldLaws (meaning field.now)) → k < n → Ready tables.now n → Whole (meaning field.now) laws tables.now k r.now self.old.sequence → Independent (field_of (meaning field.now) laws) tables.now.size tables.now.size (hankel (field_of (meaning field.now) laws) (measure (meaning field.now) laws tables.now k r.now (unit (meaning field.now) laws))) → RowsWritten (meaning field.now) laws tables.now k r.now n self.old.connection out.new result }
+        ensures rows { (laws : FieldLaws (F.Field.meaning field.now)) → k < n → Ready tables.now n → Whole (F.Field.meaning field.now) laws tables.now k r.now self.old.sequence → Independent (field_of (F.Field.meaning field.now) laws) tables.now.size tables.now.size (hankel (field_of (F.Field.meaning field.now) laws) (measure (F.Field.meaning field.now) laws tables.now k r.now (unit (F.Field.meaning field.now) laws))) → RowsWritten (F.Field.meaning field.now) laws tables.now k r.now n self.old.connection out.new result }
     {
         if !right_sides(
             field,

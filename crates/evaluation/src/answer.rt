@@ -33,7 +33,7 @@ fn answer_basis<F: Field>(
     requires few { length point.old ≤ 4 }
     requires wide { length scratch.old ≡ length point.old + 1 }
     requires room { 8192 ≤ length out.old }
-    ensures wrote { Wrote result (outcome_over (meaning field.now) (length point.old) count (next 4 text.now)) out.old out.new }
+    ensures wrote { Wrote result (outcome_over (F.Field.meaning field.now) (length point.old) count (next 4 text.now)) out.old out.new }
 {
     let first = Place {
         at: HEADER_BYTES,
@@ -68,7 +68,7 @@ fn answer_header<F: Field>(
     requires short { length text.now ≤ 8192 }
     requires header { 45 ≤ length text.now }
     requires room { 8192 ≤ length out.old }
-    ensures wrote { Wrote result (outcome_with (meaning field.now) order n count (next 4 text.now)) out.old out.new }
+    ensures wrote { Wrote result (outcome_with (F.Field.meaning field.now) order n count (next 4 text.now)) out.old out.new }
 {
     if !one_to_four(order) {
         return Err(ProbeFault::OrderCode);

@@ -29,7 +29,7 @@ fn ask_terms<F: Field>(
     requires few { n ≤ 4 }
     requires wide { length scratch.old ≡ n + 1 }
     ensures same_length { length scratch.new ≡ length scratch.old }
-    ensures asked { refusal_of result ≡ asks_terms (meaning field.now) n (terms (n + 1) count (drop at text.now)) line }
+    ensures asked { refusal_of result ≡ asks_terms (F.Field.meaning field.now) n (terms (n + 1) count (drop at text.now)) line }
 {
     if let Some(term) = first_failing_term(
         field,
@@ -69,7 +69,7 @@ fn ask_polynomial<F: Field>(
     requires few { n ≤ 4 }
     requires wide { length scratch.old ≡ n + 1 }
     ensures same_length { length scratch.new ≡ length scratch.old }
-    ensures asked { elim result [ Ok q ↦ PolynomialPassed text.now (meaning field.now) n place q | Err e ↦ asks_polynomial (meaning field.now) n (drop place.at text.now) place.line ≡ Some e ] }
+    ensures asked { elim result [ Ok q ↦ PolynomialPassed text.now (F.Field.meaning field.now) n place q | Err e ↦ asks_polynomial (F.Field.meaning field.now) n (drop place.at text.now) place.line ≡ Some e ] }
 {
     let mut count = [0u32; 1];
     let first = next_line(text, place, &mut count)?;
@@ -96,7 +96,7 @@ pub(crate) fn ask_polynomials<F: Field>(
     requires few { n ≤ 4 }
     requires wide { length scratch.old ≡ n + 1 }
     ensures same_length { length scratch.new ≡ length scratch.old }
-    ensures asked { elim result [ Ok q ↦ PolynomialsPassed text.now (meaning field.now) n count place q | Err e ↦ asks_polynomials (meaning field.now) n count (drop place.at text.now) place.line ≡ Some e ] }
+    ensures asked { elim result [ Ok q ↦ PolynomialsPassed text.now (F.Field.meaning field.now) n count place q | Err e ↦ asks_polynomials (F.Field.meaning field.now) n count (drop place.at text.now) place.line ≡ Some e ] }
 {
     let mut here = place;
     for _i in 0..count {

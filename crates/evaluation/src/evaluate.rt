@@ -6,7 +6,7 @@ use field::Field;
 
 // `x` to the power `e`.
 fn raised<F: Field>(field: &F, x: u32, e: u32) -> u32
-    ensures { result ≡ power (meaning field.now) x e }
+    ensures { result ≡ power (F.Field.meaning field.now) x e }
 {
     let mut product = field.one();
     for _i in 0..e {
@@ -18,7 +18,7 @@ fn raised<F: Field>(field: &F, x: u32, e: u32) -> u32
 // The value at `point` of a term: its coefficient, then an exponent for each word of the point.
 pub(crate) fn term_at<F: Field>(field: &F, point: &[u32], term: &[u32]) -> u32
     requires { length term.now ≡ length point.now + 1 }
-    ensures { result ≡ term_value (meaning field.now) (length point.now) point.now term.now }
+    ensures { result ≡ term_value (F.Field.meaning field.now) (length point.now) point.now term.now }
 {
     let mut product = term[0];
     for i in 0..point.len() {

@@ -13,7 +13,7 @@ const LARGEST_EXPONENT: u32 = 48;
 
 // Is a word an element other than zero?
 fn nonzero_element<F: Field>(field: &F, word: u32) -> bool
-    ensures { result ≡ nonzero_element (meaning field.now) word }
+    ensures { result ≡ nonzero_element (F.Field.meaning field.now) word }
 {
     field.contains(word) & (word != field.zero())
 }
@@ -33,7 +33,7 @@ fn exponents_stand(term: &[u32], n: usize) -> bool
 // Does a term in `n` variables get a yes?
 fn stands<F: Field>(field: &F, question: Question, term: &[u32], n: usize) -> bool
     requires { length term.now ≡ n + 1 }
-    ensures { result ≡ stands_by (meaning field.now) n question term.now }
+    ensures { result ≡ stands_by (F.Field.meaning field.now) n question term.now }
 {
     match question {
         Question::Coefficient => nonzero_element(field, term[0]),
@@ -56,7 +56,7 @@ pub(crate) fn first_failing_term<F: Field>(
     requires few { n ≤ 4 }
     requires wide { length scratch.old ≡ n + 1 }
     ensures same_length { length scratch.new ≡ length scratch.old }
-    ensures first { result ≡ first_no (stands_by (meaning field.now) n question) (terms (n + 1) count (drop at text.now)) }
+    ensures first { result ≡ first_no (stands_by (F.Field.meaning field.now) n question) (terms (n + 1) count (drop at text.now)) }
 {
     let mut here = at;
     for i in 0..count {
@@ -72,7 +72,7 @@ pub(crate) fn first_failing_term<F: Field>(
 // The first of the words that is no element, from 1.
 pub(crate) fn first_no_element<F: Field>(field: &F, words: &[u32]) -> Option<u32>
     requires { length words.now ≤ 4 }
-    ensures { result ≡ first_no (meaning field.now).elem words.now }
+    ensures { result ≡ first_no (F.Field.meaning field.now).elem words.now }
 {
     for i in 0..words.len() {
         if !field.contains(words[i]) {

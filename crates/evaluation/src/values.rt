@@ -31,7 +31,7 @@ fn value_of_terms<F: Field>(
     requires few { length point.now ≤ 4 }
     requires wide { length scratch.old ≡ length point.now + 1 }
     ensures same_length { length scratch.new ≡ length scratch.old }
-    ensures value { result.value ≡ value (meaning field.now) (length point.now) point.now (terms (length point.now + 1) count (drop at text.now)) }
+    ensures value { result.value ≡ value (F.Field.meaning field.now) (length point.now) point.now (terms (length point.now + 1) count (drop at text.now)) }
     ensures inside { result.after ≤ length text.now }
     ensures rest { drop result.after text.now ≡ after_lines (length point.now + 1) count (drop at text.now) }
 {
@@ -61,7 +61,7 @@ fn value_of_polynomial<F: Field>(
     requires few { length point.now ≤ 4 }
     requires wide { length scratch.old ≡ length point.now + 1 }
     ensures same_length { length scratch.new ≡ length scratch.old }
-    ensures value { result.value ≡ value (meaning field.now) (length point.now) point.now (polynomial (length point.now) (drop at text.now)) }
+    ensures value { result.value ≡ value (F.Field.meaning field.now) (length point.now) point.now (polynomial (length point.now) (drop at text.now)) }
     ensures inside { result.after ≤ length text.now }
     ensures rest { drop result.after text.now ≡ after (length point.now) (drop at text.now) }
 {
@@ -86,9 +86,9 @@ pub(crate) fn write_values<F: Field>(
     requires few { length point.now ≤ 4 }
     requires wide { length scratch.old ≡ length point.now + 1 }
     requires room { 12 * count ≤ length out.old }
-    ensures bytes { out.new ≡ put out.old 0 (value_lines (values_at (meaning field.now) (length point.now) point.now count (drop at text.now))) }
+    ensures bytes { out.new ≡ put out.old 0 (value_lines (values_at (F.Field.meaning field.now) (length point.now) point.now count (drop at text.now))) }
     ensures within { result ≤ length out.old }
-    ensures end { result ≡ length (value_lines (values_at (meaning field.now) (length point.now) point.now count (drop at text.now))) }
+    ensures end { result ≡ length (value_lines (values_at (F.Field.meaning field.now) (length point.now) point.now count (drop at text.now))) }
 {
     let mut here = at;
     let mut end = 0;

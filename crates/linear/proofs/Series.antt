@@ -9,7 +9,7 @@ use Rattle.algebra.proofs.Laws
 use Rattle.algebra.proofs.Sums
 
 module _ {K : Type 0} (F : Field K) where
-  open F use {zer, one, ◌⊕◌, ◌⊗◌, neg, inv, add_assoc, add_comm, add-zero, add_neg, mul_assoc, mul_comm, mul_one, distrib, mul_inv, one_ne, same}
+  open F use {zer, one, ◌⊕◌, ◌⊗◌, neg, inv, add_assoc, add_comm, add_zero, add_neg, mul_assoc, mul_comm, mul_one, distrib, mul_inv, one_ne, same}
 
   infixl 65 ◌⊕◌
   infixl 70 ◌⊗◌
@@ -29,11 +29,11 @@ module _ {K : Type 0} (F : Field K) where
 
   pub conv_all : (n : ℕ) (f u : ℕ → K) → ((i j : ℕ) → i + j ≡ n → f i ⊗ u j ≡ zer) → conv F f u n ≡ zer
   conv_all zero f u h = h 0 0 (omega arith)
-  conv_all (suc n) f u h = ap₂ (λ x y. x ⊕ y) (h 0 (suc n) (omega arith)) (conv_all n (λ i. f (suc i)) u (λ i j e. h (suc i) j (omega arith))) ∙ add-zero zer
+  conv_all (suc n) f u h = ap₂ (λ x y. x ⊕ y) (h 0 (suc n) (omega arith)) (conv_all n (λ i. f (suc i)) u (λ i j e. h (suc i) j (omega arith))) ∙ add_zero zer
 
   pub conv_first : (n : ℕ) (f u : ℕ → K) → ((i j : ℕ) → suc i + j ≡ n → f (suc i) ⊗ u j ≡ zer) → conv F f u n ≡ f 0 ⊗ u n
   conv_first zero f u h = refl
-  conv_first (suc n) f u h = ap (λ z. f 0 ⊗ u (suc n) ⊕ z) (conv_all n (λ i. f (suc i)) u (λ i j e. h i j (omega arith))) ∙ add-zero _
+  conv_first (suc n) f u h = ap (λ z. f 0 ⊗ u (suc n) ⊕ z) (conv_all n (λ i. f (suc i)) u (λ i j e. h i j (omega arith))) ∙ add_zero _
 
   pub conv_left_comm : (n : ℕ) (f g h : ℕ → K) → conv F f (conv F g h) n ≡ conv F g (conv F f h) n
   conv_left_comm zero f g h = Laws.mul_left_comm F (f 0) (g 0) (h 0)

@@ -95,7 +95,7 @@ fn take<F: Field>(
     requires pivots { n < length pivots.old }
     requires within { (i : ℕ) → i < n → slice_index pivots.old i < family.places }
     ensures within { result ≡ Kept → (i : ℕ) → i < n + 1 → slice_index pivots.new i < family.entry.places }
-    ensures stepped { (laws : FieldLaws (meaning field.now)) (N : ℕ) → n < N → family.entry.places + N ≤ length row.old → Elems (meaning field.now) family.entry.words.now → Growing (meaning field.now) laws family.entry.places N n (rows (meaning field.now) laws family.entry.stride family.entry.words.now) table.old pivots.old → Stepped (meaning field.now) laws family.entry.places N n (rows (meaning field.now) laws family.entry.stride family.entry.words.now) table.new pivots.new row.new result }
+    ensures stepped { (laws : FieldLaws (F.Field.meaning field.now)) (N : ℕ) → n < N → family.entry.places + N ≤ length row.old → Elems (F.Field.meaning field.now) family.entry.words.now → Growing (F.Field.meaning field.now) laws family.entry.places N n (rows (F.Field.meaning field.now) laws family.entry.stride family.entry.words.now) table.old pivots.old → Stepped (F.Field.meaning field.now) laws family.entry.places N n (rows (F.Field.meaning field.now) laws family.entry.stride family.entry.words.now) table.new pivots.new row.new result }
 {
     let start = n * family.stride;
     let vector = &family.words[start..start + family.places];
@@ -121,7 +121,7 @@ pub fn eliminate<F: Field>(
     row: &mut [u32],
 ) -> Dependence
     ensures refused { fits family.entry.places family.entry.count family.entry.stride (length family.entry.words.now) (length table.old) (length pivots.old) (length row.old) ≡ false → (result ≡ Dependence.Refused) × (table.new ≡ table.old) × (pivots.new ≡ pivots.old) × (row.new ≡ row.old) }
-    ensures eliminated { fits family.entry.places family.entry.count family.entry.stride (length family.entry.words.now) (length table.old) (length pivots.old) (length row.old) ≡ true → (laws : FieldLaws (meaning field.now)) → Elems (meaning field.now) family.entry.words.now → Eliminated (meaning field.now) laws family.entry.places family.entry.count (rows (meaning field.now) laws family.entry.stride family.entry.words.now) table.new pivots.new row.new result }
+    ensures eliminated { fits family.entry.places family.entry.count family.entry.stride (length family.entry.words.now) (length table.old) (length pivots.old) (length row.old) ≡ true → (laws : FieldLaws (F.Field.meaning field.now)) → Elems (F.Field.meaning field.now) family.entry.words.now → Eliminated (F.Field.meaning field.now) laws family.entry.places family.entry.count (rows (F.Field.meaning field.now) laws family.entry.stride family.entry.words.now) table.new pivots.new row.new result }
 {
     if !has_room(
         family.places,
@@ -163,7 +163,7 @@ pub fn solve<F: Field>(
     ensures refused { solvable (length vector.now) (length out.old) (length table.now) pivots.now (length row.old) ≡ false → (result ≡ Solution.Refused) × (row.new ≡ row.old) }
     ensures answered { solvable (length vector.now) (length out.old) (length table.now) pivots.now (length row.old) ≡ true → result ≢ Solution.Refused }
     ensures unwritten { result ≢ Solution.Found → out.new ≡ out.old }
-    ensures solved { roomy (length vector.now) (length out.old) (length table.now) (length pivots.now) (length row.old) ≡ true → (laws : FieldLaws (meaning field.now)) (v : ℕ → ℕ → Elem (meaning field.now)) → Elems (meaning field.now) vector.now → Table (meaning field.now) laws (length vector.now) (length out.old) v table.now pivots.now → Solved (meaning field.now) laws (length vector.now) (length out.old) v vector.now out.new result }
+    ensures solved { roomy (length vector.now) (length out.old) (length table.now) (length pivots.now) (length row.old) ≡ true → (laws : FieldLaws (F.Field.meaning field.now)) (v : ℕ → ℕ → Elem (F.Field.meaning field.now)) → Elems (F.Field.meaning field.now) vector.now → Table (F.Field.meaning field.now) laws (length vector.now) (length out.old) v table.now pivots.now → Solved (F.Field.meaning field.now) laws (length vector.now) (length out.old) v vector.now out.new result }
 {
     let count = out.len();
     if !has_room(vector.len(), count, table.len(), pivots.len(), row.len()) {

@@ -14,7 +14,7 @@ pub const PITCH: usize = 96;
 // Writes the vector into the row, and zero into the words after it.
 pub(super) fn begin<F: Field>(field: &F, row: &mut [u32], vector: &[u32])
     requires { length vector.now ≤ length row.old }
-    ensures { (k : ℕ) → k < length row.old → slice_index row.new k ≡ slice_index_or vector.now k (meaning field.now).zero }
+    ensures { (k : ℕ) → k < length row.old → slice_index row.new k ≡ slice_index_or vector.now k (F.Field.meaning field.now).zero }
 {
     let zero = field.zero();
     for k in 0..row.len() {
@@ -25,7 +25,7 @@ pub(super) fn begin<F: Field>(field: &F, row: &mut [u32], vector: &[u32])
 // The first place, of so many, whose word is not zero.
 pub(super) fn first_nonzero<F: Field>(field: &F, row: &[u32], places: usize) -> Option<usize>
     requires { places ≤ length row.now }
-    ensures { elim result [ Some p ↦ (p < places) × (slice_index row.now p ≢ (meaning field.now).zero) × ((k : ℕ) → k < p → slice_index row.now k ≡ (meaning field.now).zero) | None ↦ (k : ℕ) → k < places → slice_index row.now k ≡ (meaning field.now).zero ] }
+    ensures { elim result [ Some p ↦ (p < places) × (slice_index row.now p ≢ (F.Field.meaning field.now).zero) × ((k : ℕ) → k < p → slice_index row.now k ≡ (F.Field.meaning field.now).zero) | None ↦ (k : ℕ) → k < places → slice_index row.now k ≡ (F.Field.meaning field.now).zero ] }
 {
     let zero = field.zero();
     for k in 0..places {
@@ -40,7 +40,7 @@ pub(super) fn first_nonzero<F: Field>(field: &F, row: &[u32], places: usize) -> 
 pub(super) fn keep<F: Field>(field: &F, table: &mut [u32], start: usize, row: &[u32], q: u32)
     requires { start + length row.now ≤ length table.old }
     ensures before { (j : ℕ) → j < start → slice_index table.new j ≡ slice_index table.old j }
-    ensures kept { (k : ℕ) → k < length row.now → slice_index table.new (start + k) ≡ (meaning field.now).mul q (slice_index row.now k) }
+    ensures kept { (k : ℕ) → k < length row.now → slice_index table.new (start + k) ≡ (F.Field.meaning field.now).mul q (slice_index row.now k) }
 {
     for k in 0..row.len() {
         table[start + k] = field.mul(q, row[k]);
@@ -50,7 +50,7 @@ pub(super) fn keep<F: Field>(field: &F, table: &mut [u32], start: usize, row: &[
 // Writes the opposites of the words of a row, from the word `start` on, into all of `out`.
 pub(super) fn opposites<F: Field>(field: &F, row: &[u32], start: usize, out: &mut [u32])
     requires { start + length out.old ≤ length row.now }
-    ensures { (l : ℕ) → l < length out.old → slice_index out.new l ≡ (meaning field.now).neg (slice_index row.now (start + l)) }
+    ensures { (l : ℕ) → l < length out.old → slice_index out.new l ≡ (F.Field.meaning field.now).neg (slice_index row.now (start + l)) }
 {
     for l in 0..out.len() {
         out[l] = field.neg(row[start + l]);
@@ -69,7 +69,7 @@ pub(super) fn reduce<F: Field>(
     requires rows { count * pitch ≤ length table.now }
     requires pivots { count ≤ length pivots.now }
     requires within { (i : ℕ) → i < count → slice_index pivots.now i < length row.old }
-    ensures { (k : ℕ) → k < length row.old → slice_index row.new k ≡ reduced (meaning field.now).add (meaning field.now).mul (meaning field.now).neg (λ i j. slice_index table.now (i * pitch + j)) (λ i. slice_index pivots.now i) (λ j. slice_index row.old j) count k }
+    ensures { (k : ℕ) → k < length row.old → slice_index row.new k ≡ reduced (F.Field.meaning field.now).add (F.Field.meaning field.now).mul (F.Field.meaning field.now).neg (λ i j. slice_index table.now (i * pitch + j)) (λ i. slice_index pivots.now i) (λ j. slice_index row.old j) count k }
 {
     for i in 0..count {
         let q = field.neg(row[pivots[i]]);
@@ -92,8 +92,8 @@ pub(super) fn remainder<F: Field>(
     requires rows { count * pitch ≤ length table.now }
     requires pivots { count ≤ length pivots.now }
     requires within { (i : ℕ) → i < count → slice_index pivots.now i < length vector.now }
-    ensures left { (k : ℕ) → k < length row.old → slice_index row.new k ≡ reduced (meaning field.now).add (meaning field.now).mul (meaning field.now).neg (λ i j. slice_index table.now (i * pitch + j)) (λ i. slice_index pivots.now i) (λ j. get_or vector.now j (meaning field.now).zero) count k }
-    ensures place { elim result [ Some p ↦ (p < length vector.now) × (slice_index row.new p ≢ (meaning field.now).zero) × ((k : ℕ) → k < p → slice_index row.new k ≡ (meaning field.now).zero) | None ↦ (k : ℕ) → k < length vector.now → slice_index row.new k ≡ (meaning field.now).zero ] }
+    ensures left { (k : ℕ) → k < length row.old → slice_index row.new k ≡ reduced (F.Field.meaning field.now).add (F.Field.meaning field.now).mul (F.Field.meaning field.now).neg (λ i j. slice_index table.now (i * pitch + j)) (λ i. slice_index pivots.now i) (λ j. get_or vector.now j (F.Field.meaning field.now).zero) count k }
+    ensures place { elim result [ Some p ↦ (p < length vector.now) × (slice_index row.new p ≢ (F.Field.meaning field.now).zero) × ((k : ℕ) → k < p → slice_index row.new k ≡ (F.Field.meaning field.now).zero) | None ↦ (k : ℕ) → k < length vector.now → slice_index row.new k ≡ (F.Field.meaning field.now).zero ] }
 {
     begin(field, row, vector);
     reduce(field, table, pivots, count, row);

@@ -3,17 +3,17 @@ use Rattle.evaluation.specs.Basis.{next}
 use Rattle.evaluation.proofs.Deciding.{order_refused, variables_refused, header_wrote}
 use Rattle.evaluation.proofs.answer.answer_header.Goals as goal
 
-pub returns-then-not-one-to-four : goal.returns-then-not-one-to-four
-returns-then-not-one-to-four g c = record {
-  wrote = (order_refused (g.F.Field.meaning c.args.field.now) c.args.order c.args.n c.args.count (next 4 c.args.text.now) c.if-not-one-to-four.ensures, refl);
+pub returns-then-not-one_to_four : goal.returns-then-not-one_to_four
+returns-then-not-one_to_four g c = record {
+  wrote = (order_refused (g.F.Field.meaning c.args.field.now) c.args.order c.args.n c.args.count (next 4 c.args.text.now) c.if-not-one_to_four.ensures, refl);
 }
 
-pub returns-then-not-one-to-four-2 : goal.returns-then-not-one-to-four-2
-returns-then-not-one-to-four-2 g c = record {
-  wrote = (variables_refused (g.F.Field.meaning c.args.field.now) c.args.order c.args.n c.args.count (next 4 c.args.text.now) c.if-not-one-to-four.ensures c.if-not-one-to-four-2.ensures, refl);
+pub returns-then-not-one_to_four-2 : goal.returns-then-not-one_to_four-2
+returns-then-not-one_to_four-2 g c = record {
+  wrote = (variables_refused (g.F.Field.meaning c.args.field.now) c.args.order c.args.n c.args.count (next 4 c.args.text.now) c.if-not-one_to_four.ensures c.if-not-one_to_four-2.ensures, refl);
 }
 
 pub returns : goal.returns
 returns g c = record {
-  wrote = header_wrote (g.F.Field.meaning c.args.field.now) c.args.order c.args.n c.args.count (next 4 c.args.text.now) c.answer-basis.result c.args.out.now c.answer-basis.new.out c.if-not-one-to-four.ensures c.if-not-one-to-four-2.ensures c.answer-basis.ensures.wrote;
+  wrote = header_wrote (g.F.Field.meaning c.args.field.now) c.args.order c.args.n c.args.count (next 4 c.args.text.now) c.answer_basis.result c.args.out.now c.answer_basis.new.out c.if-not-one_to_four.ensures c.if-not-one_to_four-2.ensures c.answer_basis.ensures.wrote;
 }

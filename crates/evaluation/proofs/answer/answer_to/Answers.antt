@@ -5,7 +5,7 @@ use Rattle.evaluation.proofs.Deciding.{values_printed, fault_printed}
 use Rattle.evaluation.proofs.answer.answer_to.Goals as goal
 
 pub returns-in-Ok : goal.returns-in-Ok
-returns-in-Ok c = record { within = c.in-Ok.ensures.wrote.4; no_room = λ h. absurd (omega arith); answer = λ h. values_printed c.args.text.now c.args.out.now c.in-Ok.end c.answer-text.new.out c.in-Ok.ensures.wrote }
+returns-in-Ok c = record { within = c.in-Ok.ensures.wrote.4; no_room = λ h. absurd (omega arith); answer = λ h. values_printed c.args.text.now c.args.out.now c.in-Ok.end c.answer_text.new.out c.in-Ok.ensures.wrote }
 
 pub returns-in-Err : goal.returns-in-Err
 returns-in-Err c =
@@ -13,5 +13,5 @@ returns-in-Err c =
     let size = line_length_is ws c.report-report.ensures.words in
     let short : length (line ws) ≤ 8192 = omega (arith, size, ap length c.report-report.ensures.value) in
     let done =
-    fault_printed c.args.text.now c.args.out.now c.in-Err.fault c.answer-text.new.out c.write-line.new.out ws c.write-line.result c.if-out-lt-LONGEST-TEXT.false c.in-Err.ensures.wrote c.report-report.ensures.value short c.write-line.ensures.place_after c.write-line.ensures.rest-unchanged in
+    fault_printed c.args.text.now c.args.out.now c.in-Err.fault c.answer_text.new.out c.write_line.new.out ws c.write_line.result c.if-out-lt-LONGEST_TEXT.false c.in-Err.ensures.wrote c.report-report.ensures.value short c.write_line.ensures.place_after c.write_line.ensures.rest_unchanged in
     record { within = done.2; no_room = λ h. absurd (omega arith); answer = λ h. (done.0, done.1) }

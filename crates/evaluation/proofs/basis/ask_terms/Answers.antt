@@ -8,15 +8,15 @@ pub returns-in-Some : goal.returns-in-Some
 returns-in-Some g c =
     let m = g.F.Field.meaning c.args.field.now in
     let ts : List Term = terms (c.args.n + 1) c.args.count (drop c.args.at c.args.text.now) in
-    record { same_length = c.first-failing-term.auto.scratch; asked = terms_asked m c.args.n c.args.line ts _ _ c.in-Some.ensures.first refl }
+    record { same_length = c.first_failing_term.auto.scratch; asked = terms_asked m c.args.n c.args.line ts _ _ c.in-Some.ensures.first refl }
 
-pub returns-in-Some-first-failing-term : goal.returns-in-Some-first-failing-term
-returns-in-Some-first-failing-term g c =
+pub returns-in-Some-first_failing_term : goal.returns-in-Some-first_failing_term
+returns-in-Some-first_failing_term g c =
     let m = g.F.Field.meaning c.args.field.now in
     let ts : List Term = terms (c.args.n + 1) c.args.count (drop c.args.at c.args.text.now) in
     record {
-      same_length = c.first-failing-term-2.auto.scratch ∙ c.first-failing-term.auto.scratch;
-      asked = terms_asked m c.args.n c.args.line ts _ _ c.in-default.ensures.first c.in-Some-first-failing-term.ensures.first;
+      same_length = c.first_failing_term-2.auto.scratch ∙ c.first_failing_term.auto.scratch;
+      asked = terms_asked m c.args.n c.args.line ts _ _ c.in_default.ensures.first c.in-Some-first_failing_term.ensures.first;
     }
 
 pub returns : goal.returns
@@ -24,6 +24,6 @@ returns g c =
     let m = g.F.Field.meaning c.args.field.now in
     let ts : List Term = terms (c.args.n + 1) c.args.count (drop c.args.at c.args.text.now) in
     record {
-      same_length = c.first-failing-term-2.auto.scratch ∙ c.first-failing-term.auto.scratch;
-      asked = terms_asked m c.args.n c.args.line ts _ _ c.in-default.ensures.first c.in-default-first-failing-term.ensures.first;
+      same_length = c.first_failing_term-2.auto.scratch ∙ c.first_failing_term.auto.scratch;
+      asked = terms_asked m c.args.n c.args.line ts _ _ c.in_default.ensures.first c.in_default-first_failing_term.ensures.first;
     }

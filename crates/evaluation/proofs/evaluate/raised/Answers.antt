@@ -7,4 +7,4 @@ unfolding power
 loop-i-init g c = c.one-product.ensures
 
 pub loop-i-preserved : goal.loop-i-preserved
-loop-i-preserved g c = let e = power_more (g.F.Field.meaning c.args.field.now) c.args.x c.loop-i.-i in cc
+loop-i-preserved g c = let e = power_more (g.F.Field.meaning c.args.field.now) c.args.x c.loop-i._i in cc
