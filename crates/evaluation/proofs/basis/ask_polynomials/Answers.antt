@@ -26,5 +26,5 @@ loop-i-preserved g c = (
 pub returns : goal.returns
 returns g c = record {
   same_length = c.loop-i.auto.scratch;
-  asked = polynomials_passed c.args.text.now (g.F.Field.meaning c.args.field.now) c.args.n c.args.count c.args.place c.loop-i._i c.loop-i.here c.loop-i-test.false c.loop-i.auto.-i-end c.loop-i.invariant.1;
+  asked = polynomials_passed c.args.text.now (g.F.Field.meaning c.args.field.now) c.args.n c.args.count c.args.place c.loop-i._i c.loop-i.here c.loop-i-test.false c.loop-i.auto._i-end c.loop-i.invariant.1;
 }

@@ -29,4 +29,4 @@ loop-i-preserved c =
     (c.next_line.auto.scratch ∙ c.loop-i.invariant.0, walked_more c.args.text.now (length c.args.scratch.now) c.args.count c.args.place c.loop-i._i q _ ws c.loop-i-test.true c.loop-i.invariant.1 l)
 
 pub returns : goal.returns
-returns c = record { same_length = c.loop-i.invariant.0; asked = walked_all c.args.text.now (length c.args.scratch.now) c.args.count c.args.place c.loop-i._i c.loop-i.here c.loop-i-test.false c.loop-i.auto.-i-end c.loop-i.invariant.1 }
+returns c = record { same_length = c.loop-i.invariant.0; asked = walked_all c.args.text.now (length c.args.scratch.now) c.args.count c.args.place c.loop-i._i c.loop-i.here c.loop-i-test.false c.loop-i.auto._i-end c.loop-i.invariant.1 }

@@ -24,4 +24,4 @@ pub returns : goal.returns
 returns g c =
     let whole : c.loop-i._i ≡ c.args.count = omega arith in
     let l = subst (λ (i : ℕ). Listed (g.F.Field.meaning c.args.field.now) (length c.args.point.now) c.args.point.now (drop c.args.at c.args.text.now) c.args.out.now i (drop c.loop-i.here c.args.text.now) c.loop-i.out c.loop-i.end) whole c.loop-i.invariant.3 in
-    record { bytes = l.bytes; within = omega (arith, l.count); end = l.end-is }
+    record { bytes = l.bytes; within = omega (arith, l.count); end = l.end_is }

@@ -17,5 +17,5 @@ returns g c =
     record {
       words = words;
       elements = λ laws. words ∙ Reading.dot_read m laws (g.met.F.Field.everywhere F) xs ys (min (length xs) (length ys)) (omega arith) (omega arith);
-      is-element = subst (λ w. T (m.elem w)) (sym c.loop-i.invariant) (Columns.sum_elem m (g.met.F.Field.lawful F) (g.met.F.Field.everywhere F) c.loop-i.i _);
+      is_element = subst (λ w. T (m.elem w)) (sym c.loop-i.invariant) (Columns.sum_elem m (g.met.F.Field.lawful F) (g.met.F.Field.everywhere F) c.loop-i.i _);
     }

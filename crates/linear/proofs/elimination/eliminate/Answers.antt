@@ -5,13 +5,13 @@ use Rattle.linear.proofs.Carry.{nothing_taken, table_of, first_of}
 use Rattle.linear.proofs.elimination.eliminate.Goals as goal
 
 pub loop-n-init : goal.loop-n-init
-loop-n-init g c = (has_room _ _ _ _ _ (sym c.if-not-has-room.ensures), λ i h. absurd (omega arith), λ laws given. nothing_taken _ laws _ _ _ _ _)
+loop-n-init g c = (has_room _ _ _ _ _ (sym c.if-not-has_room.ensures), λ i h. absurd (omega arith), λ laws given. nothing_taken _ laws _ _ _ _ _)
 
 pub take-requires : goal.take-requires
 take-requires g c =
     let room = c.loop-n.invariant.0 in
     record {
-      covered = reaches _ c.args.family.count _ _ _ (sym c.if-not-is-covered.ensures) c.loop-n-test.true;
+      covered = reaches _ c.args.family.count _ _ _ (sym c.if-not-is_covered.ensures) c.loop-n-test.true;
       width = omega arith;
       coordinate = omega arith;
       rows = omega arith;
@@ -21,7 +21,7 @@ take-requires g c =
 
 pub returns-in-Depends : goal.returns-in-Depends
 returns-in-Depends g c = record {
-  refused = λ e. absurd (both_passed _ _ (sym c.if-not-has-room.ensures) (sym c.if-not-is-covered.ensures) e);
+  refused = λ e. absurd (both_passed _ _ (sym c.if-not-has_room.ensures) (sym c.if-not-is_covered.ensures) e);
   eliminated = λ h laws given.
       let room = c.loop-n.invariant.0 in
       let s = c.in-Depends.ensures.stepped laws _ c.loop-n-test.true (omega arith) given (c.loop-n.invariant.2 laws given) in
@@ -30,7 +30,7 @@ returns-in-Depends g c = record {
 
 pub returns-in-Stuck : goal.returns-in-Stuck
 returns-in-Stuck g c = record {
-  refused = λ e. absurd (both_passed _ _ (sym c.if-not-has-room.ensures) (sym c.if-not-is-covered.ensures) e);
+  refused = λ e. absurd (both_passed _ _ (sym c.if-not-has_room.ensures) (sym c.if-not-is_covered.ensures) e);
   eliminated = λ h laws given.
       let room = c.loop-n.invariant.0 in
       c.in-Stuck.ensures.stepped laws _ c.loop-n-test.true (omega arith) given (c.loop-n.invariant.2 laws given);
@@ -43,7 +43,7 @@ loop-n-preserved g c =
 
 pub returns : goal.returns
 returns g c = record {
-  refused = λ e. absurd (both_passed _ _ (sym c.if-not-has-room.ensures) (sym c.if-not-is-covered.ensures) e);
+  refused = λ e. absurd (both_passed _ _ (sym c.if-not-has_room.ensures) (sym c.if-not-is_covered.ensures) e);
   eliminated = λ h laws given.
       let m = g.F.Field.meaning c.args.field.now in
       let family = c.args.family in

@@ -3,19 +3,19 @@ use Rattle.linear.proofs.Carry.{relation, inverse_there, kept}
 use Rattle.linear.proofs.Writes.{each, part_length}
 use Rattle.linear.proofs.elimination.take.Goals as goal
 
-pub returns-in-default : goal.returns-in-default
-returns-in-default g c = record {
+pub returns-in_default : goal.returns-in_default
+returns-in_default g c = record {
   within = λ e. absurd (let z : ◌≡◌ {A = ℕ} 0 1 = cc in omega arith);
   stepped = λ laws N room fits given G.
-      (G, relation _ laws _ N _ _ _ _ _ _ c.requires.covered (omega arith) (omega arith) room (omega arith) given G (λ k h. c.remainder.ensures.left k (omega arith)) c.in-default.ensures.place);
+      (G, relation _ laws _ N _ _ _ _ _ _ c.requires.covered (omega arith) (omega arith) room (omega arith) given G (λ k h. c.remainder.ensures.left k (omega arith)) c.in_default.ensures.place);
 }
 
-pub returns-in-default-inverse : goal.returns-in-default-inverse
-returns-in-default-inverse g c = let place = c.in-Some.ensures.place in record {
+pub returns-in_default-inverse : goal.returns-in_default-inverse
+returns-in_default-inverse g c = let place = c.in-Some.ensures.place in record {
   within = λ e. absurd (let z : ◌≡◌ {A = ℕ} 0 1 = cc in omega arith);
   stepped = λ laws N room fits given G.
       inverse_there _ laws _ N _ _ _ _ _ _ c.requires.covered (omega arith) (omega arith) room (omega arith) given G (λ k h. c.remainder.ensures.left k (omega arith))
-      c.in-Some.place place.0 place.1 (sym c.in-default-inverse.ensures);
+      c.in-Some.place place.0 place.1 (sym c.in_default-inverse.ensures);
 }
 
 pub returns : goal.returns

@@ -8,5 +8,5 @@ pub returns : goal.returns
 returns g c =
     let m = g.F.Field.meaning c.args.field.now in
     let xs = c.args.c.now in
-    Adding.end_replaced xs c.add-multiple.new.to (added m c.args.by c.args.b.now (drop c.args.lag xs)) c.args.lag
-    (c.add-multiple.ensures.sums ∙ ap (λ (zs : List ℕ). added m c.args.by c.args.b.now zs) (take_rest xs c.args.lag))
+    Adding.end_replaced xs c.add_multiple.new.to (added m c.args.by c.args.b.now (drop c.args.lag xs)) c.args.lag
+    (c.add_multiple.ensures.sums ∙ ap (λ (zs : List ℕ). added m c.args.by c.args.b.now zs) (take_rest xs c.args.lag))

@@ -5,8 +5,8 @@ use Rattle.linear.proofs.recurrence.shortest.Goals as goal
 pub loop-n-init : goal.loop-n-init
 loop-n-init g c laws =
     Turn.held_start _ laws _ _ _ _ c.one.ensures
-    (omega arith) c.put-one.ensures.first (λ k a h. c.put-one.ensures.others k a (omega arith))
-    (omega arith) c.put-one-2.ensures.first (λ k a h. c.put-one-2.ensures.others k a (omega arith))
+    (omega arith) c.put_one.ensures.first (λ k a h. c.put_one.ensures.others k a (omega arith))
+    (omega arith) c.put_one-2.ensures.first (λ k a h. c.put_one-2.ensures.others k a (omega arith))
 
 pub returns : goal.returns
 returns g c laws = Turn.shortest _ laws _ _ _ _ c.loop-n.n _ _ (c.loop-n.invariant laws) (omega arith)

@@ -7,18 +7,18 @@ discrepancy-miss-requires g c =
     let I = sizes _ _ _ _ _ _ _ _ _ (c.requires.held (g.met.F.Field.lawful c.args.field.now)) in
     record { back = I.0; within = c.requires.within; room = omega (arith, I.0) }
 
-pub overflow-add-same : goal.overflow-add-same
-overflow-add-same g c = let I = sizes _ _ _ _ _ _ _ _ _ (c.requires.held (g.met.F.Field.lawful c.args.field.now)) in omega (arith, I.1)
+pub overflow_add-same : goal.overflow_add-same
+overflow_add-same g c = let I = sizes _ _ _ _ _ _ _ _ _ (c.requires.held (g.met.F.Field.lawful c.args.field.now)) in omega (arith, I.1)
 
 pub returns-then-miss-zero : goal.returns-then-miss-zero
 returns-then-miss-zero g c laws =
     held_same _ laws (g.met.F.Field.everywhere c.args.field.now) _ _ _ _ _ _ _ (c.requires.held laws) c.requires.within c.requires.polynomial c.discrepancy-miss.result c.discrepancy-miss.ensures (c.if-miss-zero.true ∙ c.zero.ensures)
 
-pub returns-in-default : goal.returns-in-default
-returns-in-default g c laws = absurd (inverse_there _ laws _ _ _ _ _ _ _ (c.requires.held laws) (sym c.inverse.ensures ∙ c.in-default.is))
+pub returns-in_default : goal.returns-in_default
+returns-in_default g c laws = absurd (inverse_there _ laws _ _ _ _ _ _ _ (c.requires.held laws) (sym c.inverse.ensures ∙ c.in_default.is))
 
-pub overflow-add-l : goal.overflow-add-l
-overflow-add-l g c = let I = sizes _ _ _ _ _ _ _ _ _ (c.requires.held (g.met.F.Field.lawful c.args.field.now)) in omega (arith, I.0)
+pub overflow_add-l : goal.overflow_add-l
+overflow_add-l g c = let I = sizes _ _ _ _ _ _ _ _ _ (c.requires.held (g.met.F.Field.lawful c.args.field.now)) in omega (arith, I.0)
 
 pub correct-requires : goal.correct-requires
 correct-requires g c = let I = sizes _ _ _ _ _ _ _ _ _ (c.requires.held (g.met.F.Field.lawful c.args.field.now)) in omega (arith, I.1)
@@ -37,4 +37,4 @@ returns g c laws =
     let m = g.F.Field.meaning c.args.field.now in
     held-long m laws (g.met.F.Field.everywhere c.args.field.now) _ _ _ _ _ _ _ (c.requires.held laws) c.requires.within c.requires.polynomial c.discrepancy-miss.result c.discrepancy-miss.ensures
     (λ e. c.if-miss-zero.false (e ∙ sym c.zero.ensures)) c.in-Some.inverse c.neg-by.result (sym c.inverse.ensures ∙ c.in-Some.is) (c.neg-by.ensures ∙ ap m.neg c.mul.ensures) _ c.correct-2.ensures
-    _ (c.copy-from-slice-2.ensures.after ∙ c.copy-from-slice.ensures.after) c.if-n-l.false
+    _ (c.copy_from_slice-2.ensures.after ∙ c.copy_from_slice.ensures.after) c.if-n-l.false

@@ -25,6 +25,6 @@ returns-in-Border g c t els j h =
     let ys = c.args.out.now in
     let columns = c.args.columns.now in
     let within : b * c.args.stride + length ys ≤ length columns = subst (Within (length ys) (length columns) c.args.stride) c.in-Border.is c.requires in
-    ap (λ (zs : List ℕ). get_or zs j 0) (c.add-multiple.ensures.sums ∙ ap (λ n. added (g.F.Field.meaning F) c.args.word (take n (drop (b * c.args.stride) columns)) ys) {x = b * c.args.stride + length ys - b * c.args.stride} {y = length ys} (omega arith))
+    ap (λ (zs : List ℕ). get_or zs j 0) (c.add_multiple.ensures.sums ∙ ap (λ n. added (g.F.Field.meaning F) c.args.word (take n (drop (b * c.args.stride) columns)) ys) {x = b * c.args.stride + length ys - b * c.args.stride} {y = length ys} (omega arith))
     ∙ Columns.column_added (g.F.Field.meaning F) (g.met.F.Field.lawful F) (g.met.F.Field.everywhere F) ys columns c.args.stride b c.args.word within j h
     ∙ ap (λ (q : Place). (g.F.Field.meaning F).add (get_or ys j 0) ((g.F.Field.meaning F).mul (entry (g.F.Field.meaning F) columns c.args.stride q j) c.args.word)) (sym c.in-Border.is)

@@ -13,7 +13,7 @@ loop-i-preserved g c els j h =
     let v = c.args.v.now in
     let elems = Columns.rows_elems m (g.met.F.Field.lawful F) (g.met.F.Field.everywhere F) places columns c.args.stride v c.loop-i.out (length places) c.loop-i.i (omega arith) (c.loop-i.invariant els) in
     Columns.row_more m (g.met.F.Field.lawful F) (g.met.F.Field.everywhere F) places columns c.args.stride v c.loop-i.out j c.loop-i.i _ (c.loop-i.invariant els j h)
-    (c.add-column.ensures (els c.loop-i.i (omega arith)) elems j (omega arith))
+    (c.add_column.ensures (els c.loop-i.i (omega arith)) elems j (omega arith))
 
 pub returns : goal.returns
 returns g c els =

@@ -4,8 +4,8 @@ use Rattle.linear.proofs.Columns
 use Rattle.linear.proofs.Fronts
 use Rattle.linear.proofs.step.step.Goals as goal
 
-pub fill-product-requires : goal.fill-product-requires
-fill-product-requires g c =
+pub fill_product-requires : goal.fill_product-requires
+fill_product-requires g c =
     let fit = c.if-not-fits.ensures.0 tt in
     let front = Fronts.front_length c.args.places.now c.args.d fit.enough_places in
     record {
@@ -18,10 +18,10 @@ pub returns : goal.returns
 returns g c =
     let F = c.args.field.now in
     let fit = c.if-not-fits.ensures.0 tt in
-    let long = c.fill-product.auto.out ∙ Fronts.front_length c.args.out.now c.args.d fit.enough_rows in
+    let long = c.fill_product.auto.out ∙ Fronts.front_length c.args.out.now c.args.d fit.enough_rows in
     record {
       fits = (λ _. fit, λ _. tt);
       refused_as_was = λ e. absurd (false≢true (sym e));
-      rest-unchanged = Fronts.front_drop c.fill-product.new.out c.args.out.now c.args.d long;
-      stepped = λ _. Columns.stepped (g.F.Field.meaning F) (g.met.F.Field.lawful F) (g.met.F.Field.everywhere F) c.args.d c.args.places.now c.args.columns.now c.args.stride c.args.v.now c.args.out.now c.fill-product.new.out fit long c.fill-product.ensures;
+      rest_unchanged = Fronts.front_drop c.fill_product.new.out c.args.out.now c.args.d long;
+      stepped = λ _. Columns.stepped (g.F.Field.meaning F) (g.met.F.Field.lawful F) (g.met.F.Field.everywhere F) c.args.d c.args.places.now c.args.columns.now c.args.stride c.args.v.now c.args.out.now c.fill_product.new.out fit long c.fill_product.ensures;
     }

@@ -10,7 +10,7 @@ loop-i-preserved g c k h =
     let m = g.F.Field.meaning c.args.field.now in
     let i = c.loop-i.i in
     let p = get_or c.args.pivots.now i 0 in
-    ap (λ xs. get_or xs k 0) c.add-multiple.ensures.sums
+    ap (λ xs. get_or xs k 0) c.add_multiple.ensures.sums
     ∙ added_at m c.neg-q.result (part (i * pitch) pitch c.args.table.now) c.loop-i.row k (omega (arith, part_length (i * pitch) pitch c.args.table.now (omega arith))) (omega arith)
     ∙ ap₂ m.add (c.loop-i.invariant k h)
     (ap₂ m.mul (c.neg-q.ensures ∙ ap m.neg (c.loop-i.invariant p (c.requires.within i (omega arith))))

@@ -9,5 +9,5 @@ returns g c =
       left = λ k h. c.reduce.ensures k (omega arith)
           ∙ reduced_along m.add m.mul m.neg (length c.args.row.now) _ _ _ _ _ _ c.args.count
           (λ i j a b. refl) (λ i a. refl) (λ i a. omega (arith, c.requires.within i a)) c.begin.ensures k h;
-      place = c.first-nonzero.ensures;
+      place = c.first_nonzero.ensures;
     }
