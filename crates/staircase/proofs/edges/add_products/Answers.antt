@@ -10,9 +10,9 @@ use Rattle.staircase.proofs.edges.add_products.Goals as goal
 pub loop-m-init : goal.loop-m-init
 loop-m-init g c = (omega arith, c.requires.room, c.requires.edges, refl)
 
-pub loop-m-preserved-in-default : goal.loop-m-preserved-in-default
+pub loop-m-preserved-in_default : goal.loop-m-preserved-in_default
 unfolding one monomial
-loop-m-preserved-in-default g c = let inv = c.loop-m.invariant in (inv.0, inv.1, edges_skip _ c.args.stairs.now c.args.k c.loop-m.m-index _ c.in-default.ensures inv.2, inv.3)
+loop-m-preserved-in_default g c = let inv = c.loop-m.invariant in (inv.0, inv.1, edges_skip _ c.args.stairs.now c.args.k c.loop-m.m-index _ c.in_default.ensures inv.2, inv.3)
 
 pub returns-in-None : goal.returns-in-None
 unfolding one monomial

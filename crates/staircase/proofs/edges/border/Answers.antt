@@ -13,7 +13,7 @@ returns-in-None g c =
     let e = c.in-None.ensures in
     record {
       border = λ Q. omega (arith, e.3, border_longer c.args.n c.args.stairs.now Q (g.O.Order.meaning c.args.order.now) (g.met.O.Order.lawful c.args.order.now) c.loop-k.k e.0 e.1 c.loop-k-test.true e.2 e.4);
-      rest-unchanged = tt;
+      rest_unchanged = tt;
     }
 
 pub loop-k-preserved : goal.loop-k-preserved
@@ -28,5 +28,5 @@ returns g c =
     let all : c.loop-k.k ≡ c.args.n = omega arith in
     record {
       border = λ Q. border_written c.args.n c.args.stairs.now Q (g.O.Order.meaning c.args.order.now) (g.met.O.Order.lawful c.args.order.now) c.loop-k.count c.loop-k.edges inv.0 (subst (λ (k : ℕ). Edges (g.O.Order.meaning c.args.order.now) c.args.stairs.now k 0 (take c.loop-k.count c.loop-k.edges)) all inv.1);
-      rest-unchanged = inv.2;
+      rest_unchanged = inv.2;
     }

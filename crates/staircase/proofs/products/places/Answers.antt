@@ -10,7 +10,7 @@ unfolding one monomial
 returns-in-None c = record {
   fits = (λ f. absurd f, λ P. let x = P.stand c.loop-i.i c.loop-i-test.true in c.in-None.ensures x.0 x.1 x.2);
   places = λ f. absurd f;
-  rest-unchanged = c.loop-i.invariant.1;
+  rest_unchanged = c.loop-i.invariant.1;
 }
 
 pub loop-i-preserved : goal.loop-i-preserved
@@ -33,5 +33,5 @@ returns c =
         λ _. tt,
       );
       places = λ _ i h. inv.0 i (omega arith);
-      rest-unchanged = inv.1;
+      rest_unchanged = inv.1;
     }

@@ -16,7 +16,7 @@ returns g c =
     let out = c.step.new.out in
     let v = take d (drop (c.args.from * c.args.stride) columns) in
     let a = c.in-Some.ensures in
-    let b = c.in-Some-column-start.ensures in
+    let b = c.in-Some-column_start.ensures in
     let st = c.if-not-step.ensures in
     let read : take (c.in-Some.start + d - c.in-Some.start) (drop c.in-Some.start columns) ≡ v = ap₂ (λ (x y : ℕ). take x (drop y columns)) (omega arith) a.0 in
     let words : length v ≡ d = length-take-le d (drop (c.args.from * c.args.stride) columns) (omega (arith, length-drop (c.args.from * c.args.stride) columns, a.1)) in
@@ -25,11 +25,11 @@ returns g c =
     record {
       fits = (λ _. record { from_there = a.1; to_there = b.1; fits = subst (λ (w : ℕ). Fits d c.args.places.now (length columns) c.args.stride w (length c.args.out.now)) (ap length read ∙ words) (st.fits.0 tt) }, λ _. tt);
       refused_as_was = λ e. absurd (true≢false e);
-      others-unchanged = (take-put_mid_below c.in-Some-column-start.at (c.in-Some-column-start.at + d - c.in-Some-column-start.at) columns c.copy-from-slice.new.self (c.args.to * c.args.stride) (omega (arith, b.0)) (omega (arith, b.0, b.1)), drop-put_mid c.in-Some-column-start.at (c.in-Some-column-start.at + d - c.in-Some-column-start.at) columns c.copy-from-slice.new.self (c.args.to * c.args.stride + d) (omega (arith, b.0)) (omega (arith, b.0, b.1)) (ap length c.copy-from-slice.ensures.after ∙ length-take-le d out long ∙ omega arith));
+      others_unchanged = (take-put_mid_below c.in-Some-column_start.at (c.in-Some-column_start.at + d - c.in-Some-column_start.at) columns c.copy_from_slice.new.self (c.args.to * c.args.stride) (omega (arith, b.0)) (omega (arith, b.0, b.1)), drop-put_mid c.in-Some-column_start.at (c.in-Some-column_start.at + d - c.in-Some-column_start.at) columns c.copy_from_slice.new.self (c.args.to * c.args.stride + d) (omega (arith, b.0)) (omega (arith, b.0, b.1)) (ap length c.copy_from_slice.ensures.after ∙ length-take-le d out long ∙ omega arith));
       stepped = λ _. column_stepped m d c.args.places.now columns c.args.stride c.args.from c.args.to out _ b.1
           (λ els. (st.stepped tt (subst (Elems m) (sym (ap (take d) read ∙ front)) els)).product ∙ ap (product_words m d c.args.places.now columns c.args.stride) read)
           long
-          (put_mid-paste c.in-Some-column-start.at (c.in-Some-column-start.at + d - c.in-Some-column-start.at) columns c.copy-from-slice.new.self (take d out) d c.copy-from-slice.ensures.after (omega arith) (sym (length-take-le d out long)) ∙ ap (λ (x : ℕ). paste columns x (take d out) d) b.0);
+          (put_mid-paste c.in-Some-column_start.at (c.in-Some-column_start.at + d - c.in-Some-column_start.at) columns c.copy_from_slice.new.self (take d out) d c.copy_from_slice.ensures.after (omega arith) (sym (length-take-le d out long)) ∙ ap (λ (x : ℕ). paste columns x (take d out) d) b.0);
     }
 
 pub returns-then-not-step : goal.returns-then-not-step
@@ -43,6 +43,6 @@ returns-then-not-step g c =
     record {
       fits = (λ f. absurd f, λ P. st.fits.1 (subst (λ (w : ℕ). Fits d c.args.places.now (length columns) c.args.stride w (length c.args.out.now)) (sym (ap length read ∙ words)) P.fits));
       refused_as_was = λ _. refl;
-      others-unchanged = (refl, refl);
+      others_unchanged = (refl, refl);
       stepped = λ f. absurd f;
     }

@@ -13,7 +13,7 @@ loop-j-preserved g c =
     let i = c.loop-j.j in (
       below_more (λ k. get_or (set out i c.neg.result) k 0 ≡ m.neg (coefficient_in m c.args.rest.now (get_or c.args.stairs.now k one))) i
           (λ k h. let d : k ≢ i = omega arith in get_or-set_other out i k c.neg.result 0 d ∙ c.loop-j.invariant.0 k h)
-          (get_or-set_same out i c.neg.result 0 (omega arith) ∙ c.neg.ensures ∙ ap m.neg c.coefficient-of.ensures),
+          (get_or-set_same out i c.neg.result 0 (omega arith) ∙ c.neg.ensures ∙ ap m.neg c.coefficient_of.ensures),
       drop-set-lt (length c.args.stairs.now) out i c.neg.result c.loop-j-test.true ∙ c.loop-j.invariant.1,
     )
 
@@ -22,5 +22,5 @@ returns g c = record {
   fits = (λ _. omega arith, λ _. tt);
   refused_as_was = λ e. absurd (true≢false e);
   column = λ _. opposites_written (g.F.Field.meaning c.args.field.now) c.args.rest.now c.args.stairs.now c.loop-j.out (omega arith) (λ j h. c.loop-j.invariant.0 j (omega arith));
-  rest-unchanged = c.loop-j.invariant.1;
+  rest_unchanged = c.loop-j.invariant.1;
 }

@@ -25,5 +25,5 @@ returns-else-count-list g c =
     let e = c.in-Err.ensures in
     let le : at ≤ count = omega (arith, e.0, length-take-le count l c.requires) in
     let lt : count < length l = omega arith in
-    let after = ap (λ (y : List Monomial). set y at c.args.m) c.copy-within.ensures.after in
+    let after = ap (λ (y : List Monomial). set y at c.args.m) c.copy_within.ensures.after in
     (omega arith, omega arith, omega arith, ap (take (count + 1)) after ∙ shifted l at count c.args.m one le lt ∙ sym e.1, ap (drop (count + 1)) after ∙ shifted_rest l at count c.args.m one le lt)

@@ -11,7 +11,7 @@ returns-in-None g c =
     record {
       no_room = search rules;
       staircase = λ Q. omega (arith, e.1, length-take-le (length c.args.stairs.now) c.args.found.now c.if-found-stairs.false, found_fewer c.args.n c.args.leads.now Q cmp (g.met.O.Order.lawful c.args.order.now) e.0 e.2);
-      rest-unchanged = refl;
+      rest_unchanged = refl;
     }
 
 pub returns-in-Some-sort : goal.returns-in-Some-sort
@@ -25,5 +25,5 @@ returns-in-Some-sort g c =
     record {
       no_room = search rules;
       staircase = λ Q. staircase_written c.args.n c.args.leads.now Q cmp (g.met.O.Order.lawful c.args.order.now) (take count found) count (length-take-le count found le) w.1 c.in-Some-sort.k c.sort.new.into (omega (arith, e.0)) (e.1 ∙ ap (sorted_by cmp) (take-append-le count found (drop (length c.args.stairs.now) c.args.found.now) le));
-      rest-unchanged = e.2;
+      rest_unchanged = e.2;
     }

@@ -7,8 +7,8 @@ use Rattle.staircase.proofs.walk.grow.Goals as goal
 pub loop-k-init : goal.loop-k-init
 loop-k-init c = (c.requires.room, grown_none c.args.n c.args.leads.now _ c.args.m c.requires.good)
 
-pub loop-k-preserved-in-default : goal.loop-k-preserved-in-default
-loop-k-preserved-in-default c = (c.loop-k.invariant.0, grown_skip c.args.n c.args.leads.now _ c.args.m c.loop-k.k _ c.loop-k.invariant.1 (sym c.in-default.ensures))
+pub loop-k-preserved-in_default : goal.loop-k-preserved-in_default
+loop-k-preserved-in_default c = (c.loop-k.invariant.0, grown_skip c.args.n c.args.leads.now _ c.args.m c.loop-k.k _ c.loop-k.invariant.1 (sym c.in_default.ensures))
 
 pub returns-in-None : goal.returns-in-None
 returns-in-None c =
