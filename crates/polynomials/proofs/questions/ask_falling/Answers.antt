@@ -10,16 +10,16 @@ use Rattle.polynomials.proofs.questions.ask_falling.Goals as goal
 pub loop-i-init : goal.loop-i-init
 loop-i-init g c = falls_none (g.O.Order.meaning c.args.order.now) (terms_of c.args.terms.now)
 
-pub returns-in-default : goal.returns-in-default
+pub returns-in_default : goal.returns-in_default
 unfolding one monomial
-returns-in-default g c line =
+returns-in_default g c line =
     let cmp = g.O.Order.meaning c.args.order.now in
     let ts = c.args.terms.now in
     let i = c.loop-i.i in
     let l : i < length ts = c.loop-i-test.true in
     each_no 11 line (length (terms_of ts)) (Falls cmp (terms_of ts)) i c.loop-i.invariant
     (omega (arith, length_terms ts))
-    (λ y. c.in-default.not-Less (c.compare.ensures.answer ∙ sym (ap₂ cmp (monomial_read ts i l no_term) (monomial_read ts (i - 1) (omega arith) no_term)) ∙ falls_of cmp (terms_of ts) i c.loop-i.auto.i y))
+    (λ y. c.in_default.not-Less (c.compare.ensures.answer ∙ sym (ap₂ cmp (monomial_read ts i l no_term) (monomial_read ts (i - 1) (omega arith) no_term)) ∙ falls_of cmp (terms_of ts) i c.loop-i.auto.i y))
 
 pub loop-i-preserved : goal.loop-i-preserved
 unfolding one monomial

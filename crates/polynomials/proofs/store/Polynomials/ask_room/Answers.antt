@@ -9,8 +9,8 @@ returns-then-count-eq-MOST c line j e = inl ((λ y. omega (arith, c.count.ensure
 pub returns-then-count-eq0 : goal.returns-then-count-eq0
 returns-then-count-eq0 c line j e = inr (omega (arith, c.count.ensures, c.if-count-eq-MOST.false, ap length e, few_held c.args.self.now), inl ((λ y. omega (arith, c.if-count-eq0.true, y)), refl, refl, refl))
 
-pub overflow-sub-terms : goal.overflow-sub-terms
-overflow-sub-terms c = omega (arith, c.terms.ensures, few_terms c.args.self.now)
+pub overflow_sub-terms : goal.overflow_sub-terms
+overflow_sub-terms c = omega (arith, c.terms.ensures, few_terms c.args.self.now)
 
 pub returns-then-count-terms : goal.returns-then-count-terms
 returns-then-count-terms c line j e =

@@ -3,11 +3,11 @@ use Rattle.algebra.proofs.Lists.{get_or_build, get_d_past}
 use Rattle.polynomials.specs.Held.{entries, part}
 use Rattle.polynomials.proofs.store.Polynomials.polynomial.Goals as goal
 
-pub offset-bounds-self-self : goal.offset-bounds-self-self
-offset-bounds-self-self c = let w = c.args.self.now.within c.args.i (omega arith) in search rules
+pub offset_bounds-self-self : goal.offset_bounds-self-self
+offset_bounds-self-self c = let w = c.args.self.now.within c.args.i (omega arith) in search rules
 
-pub slice-bounds-result-end : goal.slice-bounds-result-end
-slice-bounds-result-end c = let w = c.args.self.now.within (c.args.i + 1) (omega arith) in omega arith
+pub slice_bounds-result-end : goal.slice_bounds-result-end
+slice_bounds-result-end c = let w = c.args.self.now.within (c.args.i + 1) (omega arith) in omega arith
 
 pub returns-then-i-self : goal.returns-then-i-self
 unfolding entries

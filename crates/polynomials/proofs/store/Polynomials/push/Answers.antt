@@ -20,15 +20,15 @@ returns-then-self-eq-MOST c = record {
   refused_as_was = λ _. refl;
 }
 
-pub invariant-of-self : goal.invariant-of-self
-invariant-of-self c =
+pub invariant_of-self : goal.invariant_of-self
+invariant_of-self c =
     let s = c.args.self.now in
     let start = get_or s.starts s.count 0 in
     let end = start + length c.args.terms.now in
     let room : s.count + 1 < length s.starts = omega (arith, s.places, s.few) in
-    let put = c.copy-from-slice.new.self in
+    let put = c.copy_from_slice.new.self in
     let le : start + (end - start) ≤ length s.terms = omega (arith, s.room, s.within s.count (omega arith)) in
-    let long : length put ≡ end - start = ap length c.copy-from-slice.ensures.after ∙ omega arith in (
+    let long : length put ≡ end - start = ap length c.copy_from_slice.ensures.after ∙ omega arith in (
       length-set s.starts (s.count + 1) end ∙ s.places,
       (
         length_put start (end - start) s.terms put le long ∙ s.room,
@@ -46,13 +46,13 @@ returns c =
     let start = get_or s.starts s.count 0 in
     let end = start + length c.args.terms.now in
     let room : s.count + 1 < length s.starts = omega (arith, s.places, s.few) in
-    let put = c.copy-from-slice.new.self in
-    let long : length put ≡ end - start = ap length c.copy-from-slice.ensures.after ∙ omega arith in
+    let put = c.copy_from_slice.new.self in
+    let long : length put ≡ end - start = ap length c.copy_from_slice.ensures.after ∙ omega arith in
     record {
       answers = (λ _. (omega (arith, count_is s), omega (arith, terms_held_is s, s.within s.count (omega arith))), λ _. tt);
       pushed = λ _.
           ap (map terms_of) (entries_more s.starts s.terms s.count room end put s.rising (λ i l. omega (arith, s.within i l, s.room)) (end - start) long)
           ∙ map-append terms_of _ (put ∷ [])
-          ∙ ap (λ (ts : List Term). map terms_of (entries s) ++ (terms_of ts ∷ [])) c.copy-from-slice.ensures.after;
+          ∙ ap (λ (ts : List Term). map terms_of (entries s) ++ (terms_of ts ∷ [])) c.copy_from_slice.ensures.after;
       refused_as_was = λ e. absurd (true≢false e);
     }

@@ -14,12 +14,12 @@ loop-i-preserved c =
     let ls = leads_of (held s) in
     let out = c.loop-i.out in
     let i = c.loop-i.i in
-    let v = c.first-monomial.result in
+    let v = c.first_monomial.result in
     let few : i < length (held s) = omega (arith, c.count-count.ensures, c.loop-i-test.true) in
     let room : i < length out = omega (arith, few, c.count-count.ensures, c.if-out-count.false) in (
       below_more (λ k. get_or (set out i v) k one ≡ get_or ls k one) i
           (λ k h. let d : k ≢ i = omega arith in get_or-set_other out i k v one d ∙ c.loop-i.invariant.0 k h)
-          (get_or-set_same out i v one room ∙ c.first-monomial.ensures ∙ ap lead_of (read_held (entries s) i c.polynomial.result.now c.polynomial.ensures) ∙ sym (lead_at (held s) i)),
+          (get_or-set_same out i v one room ∙ c.first_monomial.ensures ∙ ap lead_of (read_held (entries s) i c.polynomial.result.now c.polynomial.ensures) ∙ sym (lead_at (held s) i)),
       drop-set-lt (length (held s)) out i v few ∙ c.loop-i.invariant.1,
     )
 
@@ -35,5 +35,5 @@ returns c =
       leads = λ _. ext_get_or one (take (length (held s)) out) ls (length-take-le (length (held s)) out room ∙ sym (length-map (held s) lead_of)) (λ k h.
           let l : k < length (held s) = omega (arith, h, length-take-le (length (held s)) out room) in
           get_or-take (length (held s)) out k one l ∙ c.loop-i.invariant.0 k (omega (arith, l, c.count-count.ensures, c.loop-i-test.false)));
-      rest-unchanged = c.loop-i.invariant.1;
+      rest_unchanged = c.loop-i.invariant.1;
     }
