@@ -28,16 +28,15 @@ invariant_of-self c =
     let room : s.count + 1 < length s.starts = omega (arith, s.places, s.few) in
     let put = c.copy_from_slice.new.self in
     let le : start + (end - start) ≤ length s.terms = omega (arith, s.room, s.within s.count (omega arith)) in
-    let long : length put ≡ end - start = ap length c.copy_from_slice.ensures.after ∙ omega arith in (
-      length-set s.starts (s.count + 1) end ∙ s.places,
-      (
-        length_put start (end - start) s.terms put le long ∙ s.room,
-        (
-          omega (arith, s.few),
-          (start_before s.starts s.terms s.count room end put 0 (omega arith) ∙ s.begins, (rises_more s.starts s.terms s.count room end put s.rising (omega arith), (within_more s.starts s.terms s.count room end put 1024 s.within (omega arith), tt))),
-        ),
-      ),
-    )
+    let long : length put ≡ end - start = ap length c.copy_from_slice.ensures.after ∙ omega arith in
+    record {
+      places = length-set s.starts (s.count + 1) end ∙ s.places;
+      room = length_put start (end - start) s.terms put le long ∙ s.room;
+      few = omega (arith, s.few);
+      begins = start_before s.starts s.terms s.count room end put 0 (omega arith) ∙ s.begins;
+      rising = rises_more s.starts s.terms s.count room end put s.rising (omega arith);
+      within = within_more s.starts s.terms s.count room end put 1024 s.within (omega arith);
+    }
 
 pub returns : goal.returns
 unfolding entries
