@@ -77,6 +77,6 @@ fn answers(rt: HostRuntime) -> Result<(), Fail> {
 fn long_texts(rt: HostRuntime) {
     let mut out = [0u8; 8192];
     assert_eq!(rt; answer_to(&[32; 8193], &mut out), Some(45));
-    assert!(rt; &out[0..45] == b"         32          4          0          0\n");
+    assert!(rt; &out[0..45] == b"         32          4          0          0\n".as_slice());
     assert_eq!(rt; answer_to(ONE, &mut [0; 8191]), None);
 }

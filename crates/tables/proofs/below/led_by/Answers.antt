@@ -5,10 +5,10 @@ use Rattle.staircase.specs.declared.rules.Term.{Term}
 use Rattle.tables.specs.Columns.{LedBy}
 use Rattle.tables.proofs.below.led_by.Goals as goal
 
-pub returns-then-is-led-by : goal.returns-then-is-led-by
-returns-then-is-led-by c =
+pub returns-then-is_led_by : goal.returns-then-is_led_by
+returns-then-is_led_by c =
     let s = c.args.polynomials.now in
-    (omega (arith, length-map (entries s) terms_of), subst (λ (p : List Term). LedBy p c.args.t) c.polynomial.ensures (c.if-is-led-by.ensures.0 refl), c.loop-i.invariant)
+    (omega (arith, length-map (entries s) terms_of), subst (λ (p : List Term). LedBy p c.args.t) c.polynomial.ensures (c.if-is_led_by.ensures.0 refl), c.loop-i.invariant)
 
 pub returns : goal.returns
 returns c j h =

@@ -21,8 +21,8 @@ returns-in-Some g c S E tab K els hold =
     let columns = c.args.columns.now in
     let inside : c.args.c < length E = omega (arith, c.requires.place, forms.edge_count m n S E ps stairs edges places K) in
     let room : c.args.c * 48 + length S ≤ length columns = omega (arith, c.requires.place, c.requires.edges, c.requires.columns, K.short) in
-    let e = c.lead-column.ensures in
-    (e.0, forms.lead-added m n S E ps stairs edges places K c.args.c inside tab columns hold c.in-Some.i c.in-Some.ensures room c.lead-column.new.columns (e.1 ∙ ap (λ (p : List Term). paste columns (c.args.c * 48) (opposite_words m (drop 1 p) stairs) (length stairs)) c.polynomial.ensures))
+    let e = c.lead_column.ensures in
+    (e.0, forms.lead-added m n S E ps stairs edges places K c.args.c inside tab columns hold c.in-Some.i c.in-Some.ensures room c.lead_column.new.columns (e.1 ∙ ap (λ (p : List Term). paste columns (c.args.c * 48) (opposite_words m (drop 1 p) stairs) (length stairs)) c.polynomial.ensures))
 
 pub returns-in-None : goal.returns-in-None
 unfolding one monomial
@@ -36,5 +36,5 @@ returns-in-None g c S E tab K els hold =
     let columns = c.args.columns.now in
     let inside : c.args.c < length E = omega (arith, c.requires.place, forms.edge_count m n S E ps stairs edges places K) in
     let no_lead = forms.not_led m n S E ps stairs edges places K c.args.c inside c.in-None.ensures in
-    let e = c.step-column.ensures ps stairs S E tab K (sym (forms.stair_count m n S E ps stairs edges places K)) els hold no_lead in
-    (e.0, subst (λ (col : List ℕ). ColumnsHold m n S E ((get_or E c.args.c (monos.one n), col) ∷ tab) c.step-column.new.columns 48) (sym (forms.by-replaced m n S E ps stairs edges places K c.args.c inside tab columns hold no_lead)) e.1)
+    let e = c.step_column.ensures ps stairs S E tab K (sym (forms.stair_count m n S E ps stairs edges places K)) els hold no_lead in
+    (e.0, subst (λ (col : List ℕ). ColumnsHold m n S E ((get_or E c.args.c (monos.one n), col) ∷ tab) c.step_column.new.columns 48) (sym (forms.by-replaced m n S E ps stairs edges places K c.args.c inside tab columns hold no_lead)) e.1)

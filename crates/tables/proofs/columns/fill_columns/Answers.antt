@@ -12,15 +12,15 @@ loop-c-init g c S E K b j hb hj =
     let inside : b * 48 + j < length c.fill.new.self = omega (arith, K.short, c.requires.columns, c.fill.auto.self, c.requires.edges, forms.edge_count (g.F.Field.meaning c.args.field.now) c.args.n S E (entries c.args.polynomials.now) c.args.stairs.now c.args.edges.now c.args.places.now K) in
     search rules
 
-pub returns-then-not-fill-column : goal.returns-then-not-fill-column
-returns-then-not-fill-column g c S E K =
+pub returns-then-not-fill_column : goal.returns-then-not-fill_column
+returns-then-not-fill_column g c S E K =
     let m = g.F.Field.meaning c.args.field.now in
     let n = c.args.n in
     let L = polys_of n (entries c.args.polynomials.now) in
     let laws = g.met.F.Field.lawful c.args.field.now in
     let out = g.met.F.Field.everywhere c.args.field.now in
     let tab = fill (words m) n S E L (take c.loop-c.c E) [] in
-    absurd (c.if-not-fill-column.ensures S E tab K (forms.fill_forms m laws out n S E L (take c.loop-c.c E) [] (forms.no_forms m laws out n S E L)) (c.loop-c.invariant S E K)).0
+    absurd (c.if-not-fill_column.ensures S E tab K (forms.fill_forms m laws out n S E L (take c.loop-c.c E) [] (forms.no_forms m laws out n S E L)) (c.loop-c.invariant S E K)).0
 
 pub loop-c-preserved : goal.loop-c-preserved
 loop-c-preserved g c S E K =
@@ -32,8 +32,8 @@ loop-c-preserved g c S E K =
     let out = g.met.F.Field.everywhere c.args.field.now in
     let tab = fill (words m) n S E L (take c.loop-c.c E) [] in
     let inside : c.loop-c.c < length E = omega (arith, c.loop-c-test.true, forms.edge_count m n S E ps c.args.stairs.now c.args.edges.now c.args.places.now K) in
-    subst (λ (t : Table ℕ n). ColumnsHold m n S E t c.fill-column.new.columns 48) (sym (forms.fill_more m n S E L c.loop-c.c inside))
-    (c.if-not-fill-column.ensures S E tab K (forms.fill_forms m laws out n S E L (take c.loop-c.c E) [] (forms.no_forms m laws out n S E L)) (c.loop-c.invariant S E K)).1
+    subst (λ (t : Table ℕ n). ColumnsHold m n S E t c.fill_column.new.columns 48) (sym (forms.fill_more m n S E L c.loop-c.c inside))
+    (c.if-not-fill_column.ensures S E tab K (forms.fill_forms m laws out n S E L (take c.loop-c.c E) [] (forms.no_forms m laws out n S E L)) (c.loop-c.invariant S E K)).1
 
 pub returns : goal.returns
 returns g c S E K =

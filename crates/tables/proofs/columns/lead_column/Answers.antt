@@ -16,9 +16,9 @@ returns g c =
     let terms = c.args.terms.now in
     let width : at + d - at ≡ d = omega arith in
     let room : length (take (at + d - at) (drop at columns)) ≡ d = ap (λ (w : ℕ). length (take w (drop at columns))) width ∙ length-take-le d (drop at columns) (omega (arith, length-drop at columns)) in
-    let e = c.opposite-column.ensures in
-    let out = c.opposite-column.new.out in
+    let e = c.opposite_column.ensures in
+    let out = c.opposite_column.new.out in
     let fine = e.fits.1 (omega (arith, room)) in
-    let long : length out ≡ d = c.opposite-column.auto.out ∙ room in
+    let long : length out ≡ d = c.opposite_column.auto.out ∙ room in
     let is : out ≡ opposite_words m (drop 1 terms) stairs = sym (take_all d out (omega (arith, long))) ∙ e.column fine ∙ ap (λ (r : List Term). opposite_words m r stairs) (between_to_end terms 1 (length terms) (omega arith)) in
     (fine, put_mid-paste at (at + d - at) columns out (opposite_words m (drop 1 terms) stairs) d is (sym width) (sym (length_build d _)))

@@ -8,33 +8,33 @@ use Rattle.polynomials.proofs.Stored.{few_held}
 use Rattle.tables.proofs.Asking as asking
 use Rattle.tables.proofs.tables.Tables.ask_stairs.Goals as goal
 
-pub returns-then-not-put-leads : goal.returns-then-not-put-leads
-returns-then-not-put-leads g c m laws few en = absurd (c.if-not-put-leads.ensures.fits.1 (few_held c.args.polynomials.now))
+pub returns-then-not-put_leads : goal.returns-then-not-put_leads
+returns-then-not-put_leads g c m laws few en = absurd (c.if-not-put_leads.ensures.fits.1 (few_held c.args.polynomials.now))
 
-pub returns-in-err-ask-leads : goal.returns-in-err-ask-leads
-returns-in-err-ask-leads g c m laws few en =
+pub returns-in_err-ask_leads : goal.returns-in_err-ask_leads
+returns-in_err-ask_leads g c m laws few en =
     let cmp = g.O.Order.meaning c.args.order.now in
     let O = g.met.O.Order.lawful c.args.order.now in
     let n = c.args.n in
     let ps = held c.args.polynomials.now in
-    let out = c.put-leads.new.out in
+    let out = c.put_leads.new.out in
     let leads : List Monomial = take (c.count.result - 0) out in
-    let are : leads ≡ leads_of ps = asking.cut_front c.count.result out (leads_of ps) (ap (λ (k : ℕ). take k out) c.count.ensures ∙ c.if-not-put-leads.ensures.leads tt) in
-    let f = c.in-err-ask-leads.field-0.0 in
-    let no = c.in-err-ask-leads.ensures m laws cmp ps few en are in
-    (asking.leads_refused m laws cmp O n ps few en c.from-residual.result f c.from-residual.ensures.1 no, λ y. absurd (asking.leads_refused_not m laws cmp O n ps few en f no y))
+    let are : leads ≡ leads_of ps = asking.cut_front c.count.result out (leads_of ps) (ap (λ (k : ℕ). take k out) c.count.ensures ∙ c.if-not-put_leads.ensures.leads tt) in
+    let f = c.in_err-ask_leads.field-0.0 in
+    let no = c.in_err-ask_leads.ensures m laws cmp ps few en are in
+    (asking.leads_refused m laws cmp O n ps few en c.from_residual.result f c.from_residual.ensures.1 no, λ y. absurd (asking.leads_refused_not m laws cmp O n ps few en f no y))
 
-pub returns-then-not-find-stairs : goal.returns-then-not-find-stairs
-returns-then-not-find-stairs g c m laws few en =
+pub returns-then-not-find_stairs : goal.returns-then-not-find_stairs
+returns-then-not-find_stairs g c m laws few en =
     let cmp = g.O.Order.meaning c.args.order.now in
     let O = g.met.O.Order.lawful c.args.order.now in
     let n = c.args.n in
     let ps = held c.args.polynomials.now in
-    let out = c.put-leads.new.out in
+    let out = c.put_leads.new.out in
     let leads : List Monomial = take (c.count.result - 0) out in
-    let are : leads ≡ leads_of ps = asking.cut_front c.count.result out (leads_of ps) (ap (λ (k : ℕ). take k out) c.count.ensures ∙ c.if-not-put-leads.ensures.leads tt) in
-    let yes = c.in-ok-ask-leads.ensures m laws cmp ps few en are in
-    let long = c.if-not-find-stairs.ensures (asking.leads_lead m laws cmp O n ps few en leads are yes) in
+    let are : leads ≡ leads_of ps = asking.cut_front c.count.result out (leads_of ps) (ap (λ (k : ℕ). take k out) c.count.ensures ∙ c.if-not-put_leads.ensures.leads tt) in
+    let yes = c.in_ok-ask_leads.ensures m laws cmp ps few en are in
+    let long = c.if-not-find_stairs.ensures (asking.leads_lead m laws cmp O n ps few en leads are yes) in
     (asking.size_refused m laws cmp O n ps few en leads are yes long, λ y. absurd (asking.size_refused_not m laws cmp O n ps few en leads are yes long y))
 
 pub returns : goal.returns
@@ -43,12 +43,12 @@ returns g c m laws few en =
     let O = g.met.O.Order.lawful c.args.order.now in
     let n = c.args.n in
     let ps = held c.args.polynomials.now in
-    let out = c.put-leads.new.out in
-    let t = c.find-stairs.new.self in
+    let out = c.put_leads.new.out in
+    let t = c.find_stairs.new.self in
     let leads : List Monomial = take (c.count.result - 0) out in
-    let are : leads ≡ leads_of ps = asking.cut_front c.count.result out (leads_of ps) (ap (λ (k : ℕ). take k out) c.count.ensures ∙ c.if-not-put-leads.ensures.leads tt) in
-    let yes = c.in-ok-ask-leads.ensures m laws cmp ps few en are in
-    let found = c.if-not-find-stairs.ensures (asking.leads_lead m laws cmp O n ps few en leads are yes) in
+    let are : leads ≡ leads_of ps = asking.cut_front c.count.result out (leads_of ps) (ap (λ (k : ℕ). take k out) c.count.ensures ∙ c.if-not-put_leads.ensures.leads tt) in
+    let yes = c.in_ok-ask_leads.ensures m laws cmp ps few en are in
+    let found = c.if-not-find_stairs.ensures (asking.leads_lead m laws cmp O n ps few en leads are yes) in
     let stairs = found.1 ∙ ap (λ (s : List (Mono n)). map (flat n) s) (asking.stairs_are m laws cmp O n ps few en leads are yes) in
-    let asked = c.ask-inside.ensures m laws cmp n few en (asking.cut_front t.size t.stairs _ stairs) in
-    (asking.inside_asked m laws cmp O n ps few en leads are yes c.ask-inside.result (omega (arith, found.0, t.few)) asked, λ _. stairs)
+    let asked = c.ask_inside.ensures m laws cmp n few en (asking.cut_front t.size t.stairs _ stairs) in
+    (asking.inside_asked m laws cmp O n ps few en leads are yes c.ask_inside.result (omega (arith, found.0, t.few)) asked, λ _. stairs)

@@ -19,8 +19,8 @@ returns g c laws C is =
     let whole : t.size - 0 ≡ t.size = omega arith in
     let cut : take (t.size - 0) t.stairs ≡ take t.size t.stairs = ap (λ (k : ℕ). take k t.stairs) whole in
     let long : length (take t.size t.stairs) ≡ t.size = length-take-le t.size t.stairs (omega arith) in
-    let filled = c.fill-matrices.ensures laws C (cut ∙ is) in
-    let held_in = subst (λ (d : ℕ). MatricesIn m laws cmp n ps d c.fill-matrices.new.places c.fill-matrices.new.columns) (ap length cut ∙ long) filled.1 in (
+    let filled = c.fill_matrices.ensures laws C (cut ∙ is) in
+    let held_in = subst (λ (d : ℕ). MatricesIn m laws cmp n ps d c.fill_matrices.new.places c.fill_matrices.new.columns) (ap length cut ∙ long) filled.1 in (
       filled.0,
       record {
         size = sym long ∙ ap length is ∙ length-map S (flat n);

@@ -19,7 +19,7 @@ returns g c =
     let e = c.step.ensures in
     record {
       refused_as_was = e.refused_as_was;
-      rest-unchanged = e.rest-unchanged;
+      rest_unchanged = e.rest_unchanged;
       stepped = record {
         answers = λ n few l ready words room. holds c.step.result (e.fits.1 (subst (λ (ps : List Place). linear.Fits t.size ps (length t.columns) 48 (length c.args.v.now) (length c.args.out.now)) (sym same)
             (let f = ready k l in record { enough_places = f.enough_places; enough_words = words; enough_rows = room; within = f.within })));
