@@ -16,7 +16,7 @@ returns g c =
     record {
       can = λ n few kn ready. tt;
       advanced = λ _ laws f s j h.
-          ap (λ xs. get_or xs j 0) c.copy-from-slice.ensures.after
+          ap (λ xs. get_or xs j 0) c.copy_from_slice.ensures.after
           ∙ steps m laws t c.args.k c.args.vector.now c.step.new.out f (omega (arith, t.few)) (omega (arith, t.few))
           (c.if-not-step.ensures.stepped.product refl (front_elems m laws t.size c.args.vector.now f (omega (arith, t.few)) s)) s j h;
     }

@@ -10,10 +10,10 @@ pub loop-j-init : goal.loop-j-init
 loop-j-init g c =
     let m = g.F.Field.meaning c.args.field.now in
     let t = c.args.tables.now in
-    (omega arith, λ laws j h. subst (λ (w : ℕ). T (m.elem w)) (sym (c.fill.ensures.clones j 0 (omega arith) refl ∙ c.zero.ensures)) laws.zero_in, λ laws i h. absurd (omega arith), λ laws i h. absurd (omega arith), λ laws j h. c.put-unit.ensures laws j (omega (arith, t.few)))
+    (omega arith, λ laws j h. subst (λ (w : ℕ). T (m.elem w)) (sym (c.fill.ensures.clones j 0 (omega arith) refl ∙ c.zero.ensures)) laws.zero_in, λ laws i h. absurd (omega arith), λ laws i h. absurd (omega arith), λ laws j h. c.put_unit.ensures laws j (omega (arith, t.few)))
 
-pub slice-bounds-copy-from-slice-end-in-loop-j : goal.slice-bounds-copy-from-slice-end-in-loop-j
-slice-bounds-copy-from-slice-end-in-loop-j g c =
+pub slice_bounds-copy_from_slice-end-in-loop-j : goal.slice_bounds-copy_from_slice-end-in-loop-j
+slice_bounds-copy_from_slice-end-in-loop-j g c =
     let t = c.args.tables.now in
     let l : c.loop-j.j * 48 + c.size-d.result ≤ length c.loop-j.vectors = omega (arith, t.few) in
     search rules
@@ -21,11 +21,11 @@ slice-bounds-copy-from-slice-end-in-loop-j g c =
 pub advance-requires : goal.advance-requires
 advance-requires g c = record { room = (c.loop-j.invariant.0, omega arith) }
 
-pub shape-of-vector-then-not-advance : goal.shape-of-vector-then-not-advance
-shape-of-vector-then-not-advance g c = omega arith
+pub shape_of-vector-then-not-advance : goal.shape_of-vector-then-not-advance
+shape_of-vector-then-not-advance g c = omega arith
 
-pub shape-of-vector : goal.shape-of-vector
-shape-of-vector g c = omega arith
+pub shape_of-vector : goal.shape_of-vector
+shape_of-vector g c = omega arith
 
 pub returns-then-not-advance : goal.returns-then-not-advance
 returns-then-not-advance g c = record { can = c.if-not-advance.ensures.can; vectors = λ f. absurd f; words = λ f. absurd f; next = λ f. absurd f }
@@ -41,10 +41,10 @@ loop-j-preserved g c =
     let w : ℕ = j * 48 + d - j * 48 in
     let wd : w ≡ d = omega arith in
     let fits : j * 48 + w ≤ length c.loop-j.vectors = omega (arith, t.few) in
-    let ys = c.copy-from-slice.new.self in
+    let ys = c.copy_from_slice.new.self in
     let front : length (take (d - 0) c.loop-j.vector) ≡ d - 0 = length-take-le (d - 0) c.loop-j.vector (omega (arith, t.few)) in
-    let same : length ys ≡ w = ap length c.copy-from-slice.ensures.after ∙ front ∙ omega arith in
-    let word : (i : ℕ) → i < d → get_or ys i 0 ≡ get_or c.loop-j.vector i 0 = λ i h. ap (λ (zs : List ℕ). get_or zs i 0) c.copy-from-slice.ensures.after ∙ get_or-take (d - 0) c.loop-j.vector i 0 (omega arith) in (
+    let same : length ys ≡ w = ap length c.copy_from_slice.ensures.after ∙ front ∙ omega arith in
+    let word : (i : ℕ) → i < d → get_or ys i 0 ≡ get_or c.loop-j.vector i 0 = λ i h. ap (λ (zs : List ℕ). get_or zs i 0) c.copy_from_slice.ensures.after ∙ get_or-take (d - 0) c.loop-j.vector i 0 (omega arith) in (
       c.advance.auto.vector ∙ inv.0,
       λ laws i h. mid_each (j * 48) w c.loop-j.vectors ys fits same (λ (x : ℕ). T (m.elem x)) (inv.1 laws) (λ i l. elem_by m laws _ (power m laws t k (unit m laws) j i) (word i (omega arith) ∙ inv.4 laws i (omega arith))) i (omega (arith, mid_length (j * 48) w c.loop-j.vectors ys fits same)),
       λ laws. below_more _ _

@@ -11,7 +11,7 @@ returns-then-l-d g c laws s st =
     let xs = take (d + d - 0) c.args.sequence.now in
     let long : length xs ≡ d + d = length-take-le (d + d - 0) c.args.sequence.now (omega arith) ∙ omega arith in
     let same = front_reads m laws (d + d) (d + d - 0) c.args.sequence.now s (omega arith) (omega arith) st in
-    full_length m laws d xs c.recurrence-length.new.c s c.in-Some.l long same (omega arith) (c.in-Some.ensures.shortest laws) c.if-l-d.true
+    full_length m laws d xs c.recurrence_length.new.c s c.in-Some.l long same (omega arith) (c.in-Some.ensures.shortest laws) c.if-l-d.true
 
 pub returns-else-l-d : goal.returns-else-l-d
 returns-else-l-d g c laws s st =

@@ -6,9 +6,9 @@ use Rattle.conversion.proofs.reduce.put_front.Goals as goal
 pub returns : goal.returns
 returns c =
     let count = c.args.count in
-    let ys = c.copy-from-slice.new.self in
-    let long : length ys ≡ count = ap length c.copy-from-slice.ensures.after ∙ front_length c.args.from.now count c.requires.0 in
+    let ys = c.copy_from_slice.new.self in
+    let long : length ys ≡ count = ap length c.copy_from_slice.ensures.after ∙ front_length c.args.from.now count c.requires.0 in
     record {
-      front = front_take ys c.args.to.now count long ∙ c.copy-from-slice.ensures.after ∙ ap (λ n. take n c.args.from.now) (sub-zero count);
-      rest-unchanged = front_drop ys c.args.to.now count long;
+      front = front_take ys c.args.to.now count long ∙ c.copy_from_slice.ensures.after ∙ ap (λ n. take n c.args.from.now) (sub-zero count);
+      rest_unchanged = front_drop ys c.args.to.now count long;
     }

@@ -9,12 +9,12 @@ returns g c =
     let m = g.F.Field.meaning c.args.field.now in
     let n = c.args.n in
     let t = c.args.tables.now in
-    let out = c.put-front.new.to in
+    let out = c.put_front.new.to in
     let sum = c.evaluate.new.sum in
-    let front = subst (λ (d : ℕ). take d out ≡ take d sum) c.size-d.ensures c.put-front.ensures.front in
+    let front = subst (λ (d : ℕ). take d out ≡ take d sum) c.size-d.ensures c.put_front.ensures.front in
     record {
       refused_as_was = tt;
-      rest-unchanged = subst (λ (d : ℕ). drop d out ≡ drop d c.args.out.now) c.size-d.ensures c.put-front.ensures.rest-unchanged;
+      rest_unchanged = subst (λ (d : ℕ). drop d out ≡ drop d c.args.out.now) c.size-d.ensures c.put_front.ensures.rest_unchanged;
       answered = λ laws cmp ps O S H. (
         omega (arith, H.size),
         subst (Reduced m laws cmp n ps (terms_of c.args.terms.now)) (sym front) (reduced m laws cmp O n ps S t H c.args.terms.now sum (omega (arith, t.few)) (c.if-not-evaluate.ensures.evaluated tt laws)),

@@ -9,5 +9,5 @@ returns g c =
     let t = c.args.tables.now in
     record {
       can = λ n few i k ready. c.measure.ensures.can n few k ready;
-      measured = λ a ne laws. c.measure.ensures.measured a laws _ (c.if-not-advance.ensures.advanced tt laws _ (λ j h. c.put-unit.ensures laws j (omega (arith, t.few))));
+      measured = λ a ne laws. c.measure.ensures.measured a laws _ (c.if-not-advance.ensures.advanced tt laws _ (λ j h. c.put_unit.ensures laws j (omega (arith, t.few))));
     }

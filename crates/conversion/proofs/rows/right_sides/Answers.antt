@@ -2,8 +2,8 @@ use Rattle.std.proofs.Common.{◌≡◌, ℕ, ◌+◌, ◌-◌, ◌*◌, ◌≤�
 use Rattle.conversion.proofs.Overwriting.{mid_below, mid_in, part_length}
 use Rattle.conversion.proofs.rows.right_sides.Goals as goal
 
-pub returns-then-not-right-side : goal.returns-then-not-right-side
-returns-then-not-right-side g c = record { can = λ kn ready. c.if-not-right-side.ensures.can c.args.n c.requires.few c.loop-i-test.true kn ready; measured = λ f. absurd f }
+pub returns-then-not-right_side : goal.returns-then-not-right_side
+returns-then-not-right_side g c = record { can = λ kn ready. c.if-not-right_side.ensures.can c.args.n c.requires.few c.loop-i-test.true kn ready; measured = λ f. absurd f }
 
 pub loop-i-preserved : goal.loop-i-preserved
 loop-i-preserved g c =
@@ -12,11 +12,11 @@ loop-i-preserved g c =
     let d = c.size-d.result in
     let w : ℕ = i * 48 + d - i * 48 in
     let fits : i * 48 + w ≤ length c.loop-i.sides = omega (arith, t.few) in
-    let ys = c.right-side.new.out in
-    let long : length ys ≡ w = c.right-side.auto.out ∙ part_length (i * 48) w c.loop-i.sides fits in
+    let ys = c.right_side.new.out in
+    let long : length ys ≡ w = c.right_side.auto.out ∙ part_length (i * 48) w c.loop-i.sides fits in
     below_more _ _
     (λ r h laws ne j q. mid_below (i * 48) w c.loop-i.sides ys fits long (r * 48 + j) (omega (arith, t.few)) ∙ c.loop-i.invariant r h laws ne j q)
-    (λ laws ne j q. mid_in (i * 48) w c.loop-i.sides ys fits long j (omega arith) ∙ c.if-not-right-side.ensures.measured tt ne laws j (omega arith))
+    (λ laws ne j q. mid_in (i * 48) w c.loop-i.sides ys fits long j (omega arith) ∙ c.if-not-right_side.ensures.measured tt ne laws j (omega arith))
 
 pub returns : goal.returns
 returns g c = record { can = λ kn ready. tt; measured = λ _ laws i h ne. c.loop-i.invariant i (omega arith) laws ne }

@@ -8,7 +8,7 @@ use Rattle.conversion.proofs.Solving.{solved_row}
 use Rattle.conversion.proofs.rows.write_row.Goals as goal
 
 pub returns-then-i-k : goal.returns-then-i-k
-returns-then-i-k g c laws v b G st = record { backwards = λ e l h. c.put-backwards.ensures l h; solves = λ ne. absurd (ne c.if-i-k.true) }
+returns-then-i-k g c laws v b G st = record { backwards = λ e l h. c.put_backwards.ensures l h; solves = λ ne. absurd (ne c.if-i-k.true) }
 
 pub returns : goal.returns
 returns g c laws v b G st =

@@ -18,9 +18,9 @@ loop-i-preserved g c =
     let w : ℕ = i * d + d - i * d in
     let wd : w ≡ d = omega arith in
     let fits : i * d + w ≤ length c.loop-i.out = omega arith in
-    let ys = c.write-row.new.out in
+    let ys = c.write_row.new.out in
     let part : length (take w (drop (i * d) c.loop-i.out)) ≡ d = part_length (i * d) w c.loop-i.out fits ∙ wd in
-    let same : length ys ≡ w = c.write-row.auto.out ∙ part ∙ sym wd in (
+    let same : length ys ≡ w = c.write_row.auto.out ∙ part ∙ sym wd in (
       drop-put_mid (i * d) w c.loop-i.out ys (n * d) (omega arith) (omega arith) same ∙ c.loop-i.invariant.0,
       below_more _ _
           (λ r h laws v b G st. row_along m laws d v c.args.connection.now (b r) r k (λ l. get_or c.loop-i.out (r * d + l) 0) (λ l. get_or (put_mid (i * d) w c.loop-i.out ys) (r * d + l) 0)
@@ -28,8 +28,8 @@ loop-i-preserved g c =
           (c.loop-i.invariant.1 r h laws v b G st))
           (λ laws v b G st. row_along m laws d v c.args.connection.now (b i) i k (λ l. get_or ys l 0) (λ l. get_or (put_mid (i * d) w c.loop-i.out ys) (i * d + l) 0)
           (λ l q. mid_in (i * d) w c.loop-i.out ys fits same l (omega arith))
-          (subst (λ (x : ℕ). Row m laws x v c.args.connection.now (b i) i k (λ l. get_or ys l 0)) part (c.write-row.ensures laws v (b i) (subst (λ (x : ℕ). Table m laws x x v c.args.table.now c.args.pivots.now) (sym part) G) (λ ne j q. st i c.loop-i-test.true ne j (omega arith))))),
+          (subst (λ (x : ℕ). Row m laws x v c.args.connection.now (b i) i k (λ l. get_or ys l 0)) part (c.write_row.ensures laws v (b i) (subst (λ (x : ℕ). Table m laws x x v c.args.table.now c.args.pivots.now) (sym part) G) (λ ne j q. st i c.loop-i-test.true ne j (omega arith))))),
     )
 
 pub returns : goal.returns
-returns g c = record { rest-unchanged = c.loop-i.invariant.0; rows = λ laws v b G st i h. c.loop-i.invariant.1 i (omega arith) laws v b G st }
+returns g c = record { rest_unchanged = c.loop-i.invariant.0; rows = λ laws v b G st i h. c.loop-i.invariant.1 i (omega arith) laws v b G st }

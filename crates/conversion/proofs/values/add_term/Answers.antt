@@ -16,6 +16,6 @@ returns g c =
     record {
       can = λ ready. tt;
       added = λ _ laws s S.
-          multiple_added m laws (g.met.F.Field.everywhere F) t.size a.coefficient c.act.new.vector c.args.sum.now c.add-multiple.new.to s (acts m laws t c.args.n a.monomial (unit m laws)) (omega (arith, t.few)) (omega (arith, t.few)) c.add-multiple.ensures.sums S
-          (c.if-not-act.ensures.acted tt laws (unit m laws) (λ j h. c.put-unit.ensures laws j (omega (arith, t.few))));
+          multiple_added m laws (g.met.F.Field.everywhere F) t.size a.coefficient c.act.new.vector c.args.sum.now c.add_multiple.new.to s (acts m laws t c.args.n a.monomial (unit m laws)) (omega (arith, t.few)) (omega (arith, t.few)) c.add_multiple.ensures.sums S
+          (c.if-not-act.ensures.acted tt laws (unit m laws) (λ j h. c.put_unit.ensures laws j (omega (arith, t.few))));
     }

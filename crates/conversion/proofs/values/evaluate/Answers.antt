@@ -17,8 +17,8 @@ loop-i-init g c laws j h =
     let terms = c.args.terms.now in
     c.fill.ensures.clones j 0 (omega (arith, t.few)) refl ∙ c.zero.ensures ∙ sym (ap (λ (x : Elem m). x.0) (value_none m laws t c.args.n terms blank (length terms) (omega arith) j))
 
-pub returns-then-not-add-term : goal.returns-then-not-add-term
-returns-then-not-add-term g c = record { can = c.if-not-add-term.ensures.can; evaluated = λ f. absurd f }
+pub returns-then-not-add_term : goal.returns-then-not-add_term
+returns-then-not-add_term g c = record { can = c.if-not-add_term.ensures.can; evaluated = λ f. absurd f }
 
 pub loop-i-preserved : goal.loop-i-preserved
 unfolding blank one monomial
@@ -27,7 +27,7 @@ loop-i-preserved g c laws j h =
     let t = c.args.tables.now in
     let terms = c.args.terms.now in
     let i = c.loop-i.i in
-    c.if-not-add-term.ensures.added tt laws (value_of m laws t c.args.n (drop i terms)) (c.loop-i.invariant laws) j h
+    c.if-not-add_term.ensures.added tt laws (value_of m laws t c.args.n (drop i terms)) (c.loop-i.invariant laws) j h
     ∙ sym (ap (λ (x : Elem m). x.0) (value_more m laws t c.args.n terms blank i (omega arith) (omega arith) j))
 
 pub returns : goal.returns

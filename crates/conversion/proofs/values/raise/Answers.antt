@@ -10,13 +10,13 @@ loop-i-preserved g c laws f s =
     let m = g.F.Field.meaning c.args.field.now in
     let t = c.args.tables.now in
     let k = c.args.k in
-    subst (λ (i : ℕ). Stands m t.size c.advance.new.vector (power m laws t k f i)) (sym (add-one c.loop-i.-i)) (c.if-not-advance.ensures.advanced tt laws (power m laws t k f c.loop-i.-i) (c.loop-i.invariant laws f s))
+    subst (λ (i : ℕ). Stands m t.size c.advance.new.vector (power m laws t k f i)) (sym (add-one c.loop-i._i)) (c.if-not-advance.ensures.advanced tt laws (power m laws t k f c.loop-i._i) (c.loop-i.invariant laws f s))
 
 pub returns : goal.returns
 returns g c =
     let m = g.F.Field.meaning c.args.field.now in
     let t = c.args.tables.now in
-    let all : c.loop-i.-i ≡ c.args.e = omega arith in
+    let all : c.loop-i._i ≡ c.args.e = omega arith in
     record {
       can = λ n few kn ready. tt;
       raised = λ _ laws f s. subst (λ (i : ℕ). Stands m t.size c.loop-i.vector (power m laws t c.args.k f i)) all (c.loop-i.invariant laws f s);

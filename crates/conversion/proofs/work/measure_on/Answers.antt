@@ -21,7 +21,7 @@ returns g c =
       can = c.measure.ensures.can;
       measured = λ a laws half j h.
           joined_halves (λ (i x : ℕ). x ≡ (measure m laws t k r (unit m laws) i).0) d w xs c.measure.new.out fits (c.measure.auto.out ∙ part) wd
-          (λ i q. half.decreases i (omega arith))
+          (λ i q. half.measured i (omega arith))
           (λ i q.
           let at : t.size + i ≡ d + i = omega arith in
           c.measure.ensures.measured a laws (power m laws t k (unit m laws) t.size) half.next i (omega arith)

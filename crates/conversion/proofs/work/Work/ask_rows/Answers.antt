@@ -4,8 +4,8 @@ use Rattle.conversion.specs.Asked.{LengthFound}
 use Rattle.conversion.proofs.Asking.{rows_asked}
 use Rattle.conversion.proofs.work.Work.ask_rows.Goals as goal
 
-pub returns-then-not-measure-on : goal.returns-then-not-measure-on
-returns-then-not-measure-on g c laws half n ready = absurd (c.if-not-measure-on.ensures.can n ready.0 ready.1 ready.2)
+pub returns-then-not-measure_on : goal.returns-then-not-measure_on
+returns-then-not-measure_on g c laws half n ready = absurd (c.if-not-measure_on.ensures.can n ready.0 ready.1 ready.2)
 
 pub returns : goal.returns
 returns g c laws half =
@@ -14,6 +14,6 @@ returns g c laws half =
     let k = c.args.k in
     let r = c.args.r.now in
     let s = measure m laws t k r (unit m laws) in
-    let whole = c.if-not-measure-on.ensures.measured tt laws half in
-    rows_asked m laws t k r c.measure-on.new.sequence c.ask-length.new.connection whole c.ask-length.result
-    (subst (λ (d : ℕ). LengthFound m laws d s c.ask-length.new.connection c.ask-length.result) c.size.ensures (c.ask-length.ensures laws s (λ j h. whole j (omega arith))))
+    let whole = c.if-not-measure_on.ensures.measured tt laws half in
+    rows_asked m laws t k r c.measure_on.new.sequence c.ask_length.new.connection whole c.ask_length.result
+    (subst (λ (d : ℕ). LengthFound m laws d s c.ask_length.new.connection c.ask_length.result) c.size.ensures (c.ask_length.ensures laws s (λ j h. whole j (omega arith))))

@@ -13,5 +13,5 @@ returns g c laws =
     let m = g.F.Field.meaning c.args.field.now in
     let vectors = c.krylov.new.vectors in
     let e = c.if-not-krylov.ensures in
-    shape_asked m laws c.args.tables.now c.args.k c.args.r.now vectors c.krylov.new.words c.krylov.new.vector (omega arith) (e.vectors tt laws) (record { measured = e.words tt laws; next = e.next tt laws }) c.ask-independent.result
-    (subst (λ (d : ℕ). ShapeFound m laws d (rows m laws width vectors) c.ask-independent.result) c.size.ensures (c.ask-independent.ensures laws (e.vectors tt laws).elements))
+    shape_asked m laws c.args.tables.now c.args.k c.args.r.now vectors c.krylov.new.words c.krylov.new.vector (omega arith) (e.vectors tt laws) (record { measured = e.words tt laws; next = e.next tt laws }) c.ask_independent.result
+    (subst (λ (d : ℕ). ShapeFound m laws d (rows m laws width vectors) c.ask_independent.result) c.size.ensures (c.ask_independent.ensures laws (e.vectors tt laws).elements))
