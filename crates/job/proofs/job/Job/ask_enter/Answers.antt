@@ -10,26 +10,26 @@ use Rattle.job.specs.State.{state}
 use Rattle.job.proofs.Promises.{stage_opened, open_refused}
 use Rattle.job.proofs.job.Job.ask_enter.Goals as goal
 
-pub returns-in-err-ask-open : goal.returns-in-err-ask-open
-returns-in-err-ask-open g c =
+pub returns-in_err-ask_open : goal.returns-in_err-ask_open
+returns-in_err-ask_open g c =
     let m = g.F.Field.meaning c.args.self.now.field in
     let cmp = g.O.Order.meaning c.args.self.now.order in
     let t = c.args.self.now.table in
     let p = terms_of c.args.terms.now in
-    let f = c.in-err-ask-open.field-0.0 in
-    let e = c.in-err-ask-open.ensures in
-    asked_break 0 [] (single 5 0 ((state t).stage ≡ opened) ∷ []) (room_asks 0 (state t) (length p) ++ terms_asks m cmp t.n 0 p) c.from-residual.result f c.from-residual.ensures.1 tt (open_refused t f e.0 e.1)
+    let f = c.in_err-ask_open.field-0.0 in
+    let e = c.in_err-ask_open.ensures in
+    asked_break 0 [] (single 5 0 ((state t).stage ≡ opened) ∷ []) (room_asks 0 (state t) (length p) ++ terms_asks m cmp t.n 0 p) c.from_residual.result f c.from_residual.ensures.1 tt (open_refused t f e.0 e.1)
 
-pub returns-in-err-ask-room : goal.returns-in-err-ask-room
-returns-in-err-ask-room g c =
+pub returns-in_err-ask_room : goal.returns-in_err-ask_room
+returns-in_err-ask_room g c =
     let m = g.F.Field.meaning c.args.self.now.field in
     let cmp = g.O.Order.meaning c.args.self.now.order in
     let t = c.args.self.now.table in
     let p = terms_of c.args.terms.now in
-    let f = c.in-err-ask-room.field-0.0 in
-    let stays = stage_opened t c.in-ok-ask-open.ensures in
-    let no = subst (λ (k : ℕ). Refused (room_asks 0 (state t) k) (number_of f) 0 (place_of f)) (sym (length_terms c.args.terms.now)) (c.in-err-ask-room.ensures 0 (state t) refl) in
-    asked_break 0 (single 5 0 ((state t).stage ≡ opened) ∷ []) (room_asks 0 (state t) (length p)) (terms_asks m cmp t.n 0 p) c.from-residual-in-err-ask-room.result f c.from-residual-in-err-ask-room.ensures.1 (stays, tt) no
+    let f = c.in_err-ask_room.field-0.0 in
+    let stays = stage_opened t c.in_ok-ask_open.ensures in
+    let no = subst (λ (k : ℕ). Refused (room_asks 0 (state t) k) (number_of f) 0 (place_of f)) (sym (length_terms c.args.terms.now)) (c.in_err-ask_room.ensures 0 (state t) refl) in
+    asked_break 0 (single 5 0 ((state t).stage ≡ opened) ∷ []) (room_asks 0 (state t) (length p)) (terms_asks m cmp t.n 0 p) c.from_residual-in_err-ask_room.result f c.from_residual-in_err-ask_room.ensures.1 (stays, tt) no
 
 pub returns : goal.returns
 returns g c =
@@ -37,6 +37,6 @@ returns g c =
     let cmp = g.O.Order.meaning c.args.self.now.order in
     let t = c.args.self.now.table in
     let p = terms_of c.args.terms.now in
-    let stays = stage_opened t c.in-ok-ask-open.ensures in
-    let room = subst (λ (k : ℕ). AllYes (room_asks 0 (state t) k)) (sym (length_terms c.args.terms.now)) (c.in-ok-ask-room.ensures 0 (state t) refl) in
-    asked_after 0 (single 5 0 ((state t).stage ≡ opened) ∷ room_asks 0 (state t) (length p)) (terms_asks m cmp t.n 0 p) c.ask-terms.result (stays, room) (c.ask-terms.ensures 0)
+    let stays = stage_opened t c.in_ok-ask_open.ensures in
+    let room = subst (λ (k : ℕ). AllYes (room_asks 0 (state t) k)) (sym (length_terms c.args.terms.now)) (c.in_ok-ask_room.ensures 0 (state t) refl) in
+    asked_after 0 (single 5 0 ((state t).stage ≡ opened) ∷ room_asks 0 (state t) (length p)) (terms_asks m cmp t.n 0 p) c.ask_terms.result (stays, room) (c.ask_terms.ensures 0)

@@ -10,7 +10,7 @@ returns-then-not-self g c =
     record {
       promised = open_converts (g.F.Field.meaning c.args.self.now.field) (g.O.Order.meaning c.args.self.now.order) (g.met.O.Order.lawful c.args.self.now.order) t c.args.k c.args.r.now (length c.args.out.now) c.if-not-self.true;
       refused_as_was = refl;
-      rest-unchanged = refl;
+      rest_unchanged = refl;
     }
 
 pub returns : goal.returns
@@ -26,5 +26,5 @@ returns g c =
           (λ laws K. converted m cmp O t shut laws c.args.k c.args.r.now (length c.args.out.now) out c.convert.result (c.convert.ensures.answered laws cmp (held t.polynomials) O (sound_closed m laws cmp t shut K) (K.tables shut)))
           (λ _. refl);
       refused_as_was = c.convert.ensures.refused_as_was;
-      rest-unchanged = c.convert.ensures.rest-unchanged;
+      rest_unchanged = c.convert.ensures.rest_unchanged;
     }

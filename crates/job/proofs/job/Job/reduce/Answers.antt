@@ -11,11 +11,11 @@ returns-then-not-self g c =
     record {
       promised = open_reduces (g.F.Field.meaning c.args.self.now.field) (g.O.Order.meaning c.args.self.now.order) (g.met.O.Order.lawful c.args.self.now.order) t (terms_of c.args.terms.now) (length c.args.out.now) c.if-not-self.true;
       refused_as_was = refl;
-      rest-unchanged = refl;
+      rest_unchanged = refl;
     }
 
-pub returns-in-err-ask-elements : goal.returns-in-err-ask-elements
-returns-in-err-ask-elements g c =
+pub returns-in_err-ask_elements : goal.returns-in_err-ask_elements
+returns-in_err-ask_elements g c =
     let m = g.F.Field.meaning c.args.self.now.field in
     let cmp = g.O.Order.meaning c.args.self.now.order in
     let O = g.met.O.Order.lawful c.args.self.now.order in
@@ -23,14 +23,14 @@ returns-in-err-ask-elements g c =
     let p = terms_of c.args.terms.now in
     let room = length c.args.out.now in
     record {
-      promised = broken m cmp O t (reduce p room) (λ _. take t.tables.size c.args.out.now) c.from-residual.result c.in-err-ask-elements.field-0.0 c.from-residual.ensures.1
-          (λ laws K. elements-refused m cmp O t c.if-not-self.false laws p room _ _ _ (c.in-err-ask-elements.ensures 0));
+      promised = broken m cmp O t (reduce p room) (λ _. take t.tables.size c.args.out.now) c.from_residual.result c.in_err-ask_elements.field-0.0 c.from_residual.ensures.1
+          (λ laws K. elements-refused m cmp O t c.if-not-self.false laws p room _ _ _ (c.in_err-ask_elements.ensures 0));
       refused_as_was = search rules;
-      rest-unchanged = refl;
+      rest_unchanged = refl;
     }
 
-pub returns-in-err-ask-exponents : goal.returns-in-err-ask-exponents
-returns-in-err-ask-exponents g c =
+pub returns-in_err-ask_exponents : goal.returns-in_err-ask_exponents
+returns-in_err-ask_exponents g c =
     let m = g.F.Field.meaning c.args.self.now.field in
     let cmp = g.O.Order.meaning c.args.self.now.order in
     let O = g.met.O.Order.lawful c.args.self.now.order in
@@ -38,10 +38,10 @@ returns-in-err-ask-exponents g c =
     let p = terms_of c.args.terms.now in
     let room = length c.args.out.now in
     record {
-      promised = broken m cmp O t (reduce p room) (λ _. take t.tables.size c.args.out.now) c.from-residual-in-err-ask-exponents.result c.in-err-ask-exponents.field-0.0 c.from-residual-in-err-ask-exponents.ensures.1
-          (λ laws K. exponents-refused m cmp O t c.if-not-self.false laws p room (c.in-ok-ask-elements.ensures 0) _ _ _ (c.in-err-ask-exponents.ensures 0));
+      promised = broken m cmp O t (reduce p room) (λ _. take t.tables.size c.args.out.now) c.from_residual-in_err-ask_exponents.result c.in_err-ask_exponents.field-0.0 c.from_residual-in_err-ask_exponents.ensures.1
+          (λ laws K. exponents-refused m cmp O t c.if-not-self.false laws p room (c.in_ok-ask_elements.ensures 0) _ _ _ (c.in_err-ask_exponents.ensures 0));
       refused_as_was = search rules;
-      rest-unchanged = refl;
+      rest_unchanged = refl;
     }
 
 pub returns : goal.returns
@@ -56,8 +56,8 @@ returns g c =
     let out = take t.tables.size c.reduce.new.out in
     record {
       promised = only_reads m cmp O t (reduce p room) (λ _. out) c.reduce.result
-          (λ laws K. reduced m cmp O t shut laws p room (c.in-ok-ask-elements.ensures 0) out c.reduce.result (c.in-ok-ask-exponents.ensures 0) (c.reduce.ensures.answered laws cmp (held t.polynomials) O (sound_closed m laws cmp t shut K) (K.tables shut)))
+          (λ laws K. reduced m cmp O t shut laws p room (c.in_ok-ask_elements.ensures 0) out c.reduce.result (c.in_ok-ask_exponents.ensures 0) (c.reduce.ensures.answered laws cmp (held t.polynomials) O (sound_closed m laws cmp t shut K) (K.tables shut)))
           (λ _. refl);
       refused_as_was = c.reduce.ensures.refused_as_was;
-      rest-unchanged = c.reduce.ensures.rest-unchanged;
+      rest_unchanged = c.reduce.ensures.rest_unchanged;
     }
