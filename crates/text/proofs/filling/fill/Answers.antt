@@ -11,24 +11,24 @@ use Rattle.text.proofs.Entering.{fill_not_empty, fill-unread, fill-other, fill-r
 use Rattle.text.proofs.Filled.{promised_as_was, promised_open, text_again}
 use Rattle.text.proofs.filling.fill.Goals as goal
 
-pub returns-then-not-is-new : goal.returns-then-not-is-new
-returns-then-not-is-new g c =
+pub returns-then-not-is_new : goal.returns-then-not-is_new
+returns-then-not-is_new g c =
     let m = g.F.Field.meaning c.args.job.now.field in
     let cmp = g.O.Order.meaning c.args.job.now.order in
     let O = g.met.O.Order.lawful c.args.job.now.order in
     let t = c.args.job.now.table in
-    let d = fill_not_empty m cmp c.args.bytes.now (state t) (λ x. true≢false (sym (c.is-new.ensures.1 x) ∙ c.if-not-is-new.true)) in
-    record { filled = (d, refl); promised = promised_as_was m cmp O t c.args.bytes.now NotEmpty d; written-again = tt; same-field-and-order = (refl, refl) }
+    let d = fill_not_empty m cmp c.args.bytes.now (state t) (λ x. true≢false (sym (c.is_new.ensures.1 x) ∙ c.if-not-is_new.true)) in
+    record { filled = (d, refl); promised = promised_as_was m cmp O t c.args.bytes.now NotEmpty d; written_again = tt; same_field_and_order = (refl, refl) }
 
-pub returns-in-err-n : goal.returns-in-err-n
-returns-in-err-n g c =
+pub returns-in_err-n : goal.returns-in_err-n
+returns-in_err-n g c =
     let m = g.F.Field.meaning c.args.job.now.field in
     let cmp = g.O.Order.meaning c.args.job.now.order in
     let O = g.met.O.Order.lawful c.args.job.now.order in
     let t = c.args.job.now.table in
-    let p = err_from_is_err_and c.from-residual.result c.from-residual.ensures.1 in
-    let d = fill-unread m cmp c.args.bytes.now (state t) (c.if-not-is-new.ensures.0 refl) _ _ _ c.in-err-n.ensures.asked in
-    rw (p.1, p.2) (record { filled = (d, refl); promised = promised_as_was m cmp O t c.args.bytes.now c.in-err-n.field-0.0 d; written-again = tt; same-field-and-order = (refl, refl) })
+    let p = err_from_is_err_and c.from_residual.result c.from_residual.ensures.1 in
+    let d = fill-unread m cmp c.args.bytes.now (state t) (c.if-not-is_new.ensures.0 refl) _ _ _ c.in_err-n.ensures.asked in
+    rw (p.1, p.2) (record { filled = (d, refl); promised = promised_as_was m cmp O t c.args.bytes.now c.in_err-n.field-0.0 d; written_again = tt; same_field_and_order = (refl, refl) })
 
 pub returns-then-n-variables : goal.returns-then-n-variables
 returns-then-n-variables g c =
@@ -36,16 +36,16 @@ returns-then-n-variables g c =
     let cmp = g.O.Order.meaning c.args.job.now.order in
     let O = g.met.O.Order.lawful c.args.job.now.order in
     let t = c.args.job.now.table in
-    let h = header_numbers c.args.bytes.now (c.in-ok-n.field-0-0, c.in-ok-n.field-0-1, c.in-ok-n.n, c.in-ok-n.count) c.in-ok-n.ensures.value in
-    let d = fill-other m cmp c.args.bytes.now (state t) (c.if-not-is-new.ensures.0 refl) c.in-ok-n.ensures.asked (λ e. c.if-n-variables.true (h.0 ∙ e ∙ sym c.variables.ensures.value)) in
-    record { filled = (d, refl); promised = promised_as_was m cmp O t c.args.bytes.now OtherVariables d; written-again = tt; same-field-and-order = (refl, refl) }
+    let h = header_numbers c.args.bytes.now (c.in_ok-n.field-0-0, c.in_ok-n.field-0-1, c.in_ok-n.n, c.in_ok-n.count) c.in_ok-n.ensures.value in
+    let d = fill-other m cmp c.args.bytes.now (state t) (c.if-not-is_new.ensures.0 refl) c.in_ok-n.ensures.asked (λ e. c.if-n-variables.true (h.0 ∙ e ∙ sym c.variables.ensures.value)) in
+    record { filled = (d, refl); promised = promised_as_was m cmp O t c.args.bytes.now OtherVariables d; written_again = tt; same_field_and_order = (refl, refl) }
 
-pub fill-polynomials-requires : goal.fill-polynomials-requires
-fill-polynomials-requires g c = record {
+pub fill_polynomials-requires : goal.fill_polynomials-requires
+fill_polynomials-requires g c = record {
   counted = omega arith;
-  inside = header_inside c.args.bytes.now c.in-ok-n.ensures.asked;
+  inside = header_inside c.args.bytes.now c.in_ok-n.ensures.asked;
   wide = refl;
-  opened = (c.if-not-is-new.ensures.0 refl).0;
+  opened = (c.if-not-is_new.ensures.0 refl).0;
 }
 
 pub returns-in-Ok : goal.returns-in-Ok
@@ -55,18 +55,18 @@ returns-in-Ok g c =
     let cmp = g.O.Order.meaning c.args.job.now.order in
     let O = g.met.O.Order.lawful c.args.job.now.order in
     let t = c.args.job.now.table in
-    let u = c.fill-polynomials.new.job.table in
+    let u = c.fill_polynomials.new.job.table in
     let bytes = c.args.bytes.now in
-    let empty = c.if-not-is-new.ensures.0 refl in
-    let h = header_numbers bytes (c.in-ok-n.field-0-0, c.in-ok-n.field-0-1, c.in-ok-n.n, c.in-ok-n.count) c.in-ok-n.ensures.value in
+    let empty = c.if-not-is_new.ensures.0 refl in
+    let h = header_numbers bytes (c.in_ok-n.field-0-0, c.in_ok-n.field-0-1, c.in_ok-n.n, c.in_ok-n.count) c.in_ok-n.ensures.value in
     let w = subst (λ (k : ℕ). PolynomialsEntered m cmp bytes k (state t) (record { at = 45; line = 2 }) (state u) (Ok c.in-Ok.end)) h.1 c.in-Ok.ensures.entered in
-    let filled : Filled m cmp bytes (state t) (state u) (Ok c.in-Ok.end.at) = (fill-accepted m cmp bytes (state t) empty c.in-ok-n.ensures.asked (sym h.0 ∙ c.if-n-variables.false ∙ c.variables.ensures.value) w.asked, fill_length m cmp bytes (state t) (state u) c.in-Ok.end w, w.enters) in
+    let filled : Filled m cmp bytes (state t) (state u) (Ok c.in-Ok.end.at) = (fill-accepted m cmp bytes (state t) empty c.in_ok-n.ensures.asked (sym h.0 ∙ c.if-n-variables.false ∙ c.variables.ensures.value) w.asked, fill_length m cmp bytes (state t) (state u) c.in-Ok.end w, w.enters) in
     let fits = subst (λ (x : ℕ). x ≤ variables) c.variables.ensures.value c.variables.ensures.few.1 in
     record {
       filled = filled;
       promised = promised_open m cmp O t bytes u (ap (λ (x : Job). x.stage) w.enters ∙ empty.0) (Ok c.in-Ok.end.at) filled;
-      written-again = text_again m laws cmp bytes (state t) (state u) c.in-Ok.end.at fits filled;
-      same-field-and-order = c.in-Ok.ensures.same-field-and-order;
+      written_again = text_again m laws cmp bytes (state t) (state u) c.in-Ok.end.at fits filled;
+      same_field_and_order = c.in-Ok.ensures.same_field_and_order;
     }
 
 pub returns-in-Err : goal.returns-in-Err
@@ -75,19 +75,19 @@ returns-in-Err g c =
     let cmp = g.O.Order.meaning c.args.job.now.order in
     let O = g.met.O.Order.lawful c.args.job.now.order in
     let t = c.args.job.now.table in
-    let u = c.fill-polynomials.new.job.table in
+    let u = c.fill_polynomials.new.job.table in
     let v = c.clear.new.self.table in
     let bytes = c.args.bytes.now in
-    let empty = c.if-not-is-new.ensures.0 refl in
-    let h = header_numbers bytes (c.in-ok-n.field-0-0, c.in-ok-n.field-0-1, c.in-ok-n.n, c.in-ok-n.count) c.in-ok-n.ensures.value in
+    let empty = c.if-not-is_new.ensures.0 refl in
+    let h = header_numbers bytes (c.in_ok-n.field-0-0, c.in_ok-n.field-0-1, c.in_ok-n.n, c.in_ok-n.count) c.in_ok-n.ensures.value in
     let w = subst (λ (k : ℕ). PolynomialsEntered m cmp bytes k (state t) (record { at = 45; line = 2 }) (state u) (Err c.in-Err.fault)) h.1 c.in-Err.ensures.entered in
     let filled : Filled m cmp bytes (state t) (state v) (Err c.in-Err.fault) = (
-      fill-refused m cmp bytes (state t) empty c.in-ok-n.ensures.asked (sym h.0 ∙ c.if-n-variables.false ∙ c.variables.ensures.value) _ _ _ w.0,
+      fill-refused m cmp bytes (state t) empty c.in_ok-n.ensures.asked (sym h.0 ∙ c.if-n-variables.false ∙ c.variables.ensures.value) _ _ _ w.0,
       c.clear.ensures.cleared ∙ cleared_same (state t) (state u).n opened empty.1 w.1 (sym empty.0),
     ) in
     record {
       filled = filled;
       promised = promised_open m cmp O t bytes v (ap (λ (x : Job). x.stage) c.clear.ensures.cleared) (Err c.in-Err.fault) filled;
-      written-again = tt;
-      same-field-and-order = (c.clear.ensures.same-field-and-order.0 ∙ c.in-Err.ensures.same-field-and-order.0, c.clear.ensures.same-field-and-order.1 ∙ c.in-Err.ensures.same-field-and-order.1);
+      written_again = tt;
+      same_field_and_order = (c.clear.ensures.same_field_and_order.0 ∙ c.in-Err.ensures.same_field_and_order.0, c.clear.ensures.same_field_and_order.1 ∙ c.in-Err.ensures.same_field_and_order.1);
     }

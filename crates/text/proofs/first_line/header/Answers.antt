@@ -4,7 +4,7 @@ use Rattle.text.proofs.first_line.header.Goals as goal
 pub returns-in-Ok : goal.returns-in-Ok
 returns-in-Ok c =
     let r = c.in-Ok.ensures.exact.1 in
-    record { value = header_read c.args.bytes.now c.read-line.new.words r; asked = line_yes 4 c.args.bytes.now 1 c.read-line.new.words r }
+    record { value = header_read c.args.bytes.now c.read_line.new.words r; asked = line_yes 4 c.args.bytes.now 1 c.read_line.new.words r }
 
 pub returns-in-Err : goal.returns-in-Err
 returns-in-Err c =

@@ -10,8 +10,8 @@ use Rattle.text.proofs.writing.put_polynomials.Goals as goal
 pub loop-i-init : goal.loop-i-init
 loop-i-init c = (c.requires.wide, tt, parts_none (polynomial_text c.args.n) (polynomial_size c.args.n) (held c.args.polynomials.now) c.args.out.now c.args.at)
 
-pub put-polynomial-end-requires : goal.put-polynomial-end-requires
-put-polynomial-end-requires c =
+pub put_polynomial-end-requires : goal.put_polynomial-end-requires
+put_polynomial-end-requires c =
     let s = c.args.polynomials.now in
     let h : c.loop-i.i < length (held s) = omega (arith, c.loop-i-test.true, c.count-i-end.ensures) in
     let room = entry_room s c.args.n c.loop-i.i c.polynomial.result.now h c.polynomial.ensures c.args.out.now c.loop-i.out c.args.at c.loop-i.end c.requires.room c.loop-i.invariant.2 in
@@ -21,10 +21,10 @@ pub loop-i-preserved : goal.loop-i-preserved
 loop-i-preserved c =
     let s = c.args.polynomials.now in
     let h : c.loop-i.i < length (held s) = omega (arith, c.loop-i-test.true, c.count-i-end.ensures) in (
-      c.put-polynomial-end.ensures.same_width,
-      entries_fit s c.args.n c.loop-i.i c.polynomial.result.now h c.polynomial.ensures c.loop-i.invariant.1 c.put-polynomial-end.ensures.fit,
-      entries_more s c.args.n c.loop-i.i c.polynomial.result.now h c.polynomial.ensures c.args.out.now c.loop-i.out c.put-polynomial-end.new.out c.args.at c.loop-i.end c.put-polynomial-end.result (omega (arith, c.requires.room)) c.loop-i.invariant.2
-          c.put-polynomial-end.ensures.long c.put-polynomial-end.ensures.bytes c.put-polynomial-end.ensures.place_after,
+      c.put_polynomial-end.ensures.same_width,
+      entries_fit s c.args.n c.loop-i.i c.polynomial.result.now h c.polynomial.ensures c.loop-i.invariant.1 c.put_polynomial-end.ensures.fit,
+      entries_more s c.args.n c.loop-i.i c.polynomial.result.now h c.polynomial.ensures c.args.out.now c.loop-i.out c.put_polynomial-end.new.out c.args.at c.loop-i.end c.put_polynomial-end.result (omega (arith, c.requires.room)) c.loop-i.invariant.2
+          c.put_polynomial-end.ensures.long c.put_polynomial-end.ensures.bytes c.put_polynomial-end.ensures.place_after,
     )
 
 pub returns : goal.returns

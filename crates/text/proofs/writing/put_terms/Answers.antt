@@ -11,18 +11,18 @@ use Rattle.text.proofs.writing.put_terms.Goals as goal
 pub loop-i-init : goal.loop-i-init
 loop-i-init c = (c.requires.wide, tt, parts_none (term_line c.args.n) (term_size c.args.n) (terms_of c.args.terms.now) c.args.out.now c.args.at)
 
-pub put-line-end-requires : goal.put-line-end-requires
-put-line-end-requires c =
+pub put_line-end-requires : goal.put_line-end-requires
+put_line-end-requires c =
     let room = terms_room c.args.n c.args.terms.now c.args.out.now c.args.at c.loop-i.i c.loop-i.end c.loop-i.out c.loop-i-test.true c.requires.room c.loop-i.invariant.2 in
-    let wide : length c.fill-words.new.words ≡ suc c.args.n = c.fill-words.auto.words ∙ c.loop-i.invariant.0 in
+    let wide : length c.fill_words.new.words ≡ suc c.args.n = c.fill_words.auto.words ∙ c.loop-i.invariant.0 in
     omega (arith, room, wide, c.loop-i.auto.out)
 
 pub loop-i-preserved : goal.loop-i-preserved
 loop-i-preserved c = (
-  c.fill-words.auto.words ∙ c.loop-i.invariant.0,
-  terms_fit c.args.n c.args.terms.now c.args.out.now c.args.at c.loop-i.i _ c.fill-words.new.words c.loop-i-test.true c.fill-words.ensures c.put-line-end.ensures.fit c.loop-i.invariant.1,
-  terms_more c.args.n c.args.terms.now c.args.out.now c.args.at c.loop-i.i _ c.loop-i.out c.put-line-end.new.out c.fill-words.new.words c.loop-i.end c.put-line-end.result c.loop-i-test.true (omega (arith, c.requires.room)) c.loop-i.invariant.2
-      c.fill-words.ensures c.put-line-end.ensures.long c.put-line-end.ensures.bytes c.put-line-end.ensures.place_after,
+  c.fill_words.auto.words ∙ c.loop-i.invariant.0,
+  terms_fit c.args.n c.args.terms.now c.args.out.now c.args.at c.loop-i.i _ c.fill_words.new.words c.loop-i-test.true c.fill_words.ensures c.put_line-end.ensures.fit c.loop-i.invariant.1,
+  terms_more c.args.n c.args.terms.now c.args.out.now c.args.at c.loop-i.i _ c.loop-i.out c.put_line-end.new.out c.fill_words.new.words c.loop-i.end c.put_line-end.result c.loop-i-test.true (omega (arith, c.requires.room)) c.loop-i.invariant.2
+      c.fill_words.ensures c.put_line-end.ensures.long c.put_line-end.ensures.bytes c.put_line-end.ensures.place_after,
 )
 
 pub returns : goal.returns

@@ -13,14 +13,14 @@ within c =
     let h : c.loop-i.i < length (held s) = omega (arith, c.loop-i-test.true, c.count-i-end.ensures) in
     (h, omega (arith, few_held s), size_small s c.args.n c.loop-i.i c.polynomial.result.now h c.polynomial.ensures c.requires)
 
-pub overflow-mul-length : goal.overflow-mul-length
-overflow-mul-length c = omega (arith, (within c).2)
+pub overflow_mul-length : goal.overflow_mul-length
+overflow_mul-length c = omega (arith, (within c).2)
 
-pub overflow-add-length : goal.overflow-add-length
-overflow-add-length c = omega (arith, (within c).2)
+pub overflow_add-length : goal.overflow_add-length
+overflow_add-length c = omega (arith, (within c).2)
 
-pub overflow-add-length-in-loop-i : goal.overflow-add-length-in-loop-i
-overflow-add-length-in-loop-i c = omega (arith, (within c).1, (within c).2, c.loop-i.invariant.1)
+pub overflow_add-length-in-loop-i : goal.overflow_add-length-in-loop-i
+overflow_add-length-in-loop-i c = omega (arith, (within c).1, (within c).2, c.loop-i.invariant.1)
 
 pub loop-i-preserved : goal.loop-i-preserved
 loop-i-preserved c = (
