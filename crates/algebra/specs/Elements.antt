@@ -6,8 +6,8 @@
 --   Elems m xs        every word of the list is an element
 --   read m laws xs k  the element of the word at place k of a list, zero past its end
 -- Used by: every theorem about a field of the trait, at the carrier Elem.
-use Rattle.std.specs.Prelude.{◌≡◌, ℕ, zero, suc, ◌<◌, Bool, true, false, T, ◌≢◌, List, [], ◌∷◌, length, slice_index, refl}
-use Rattle.std.proofs.Common.{sym, ap, subst, ◌∙◌}
+use Rattle.std.specs.Prelude.{◌≡◌, ℕ, zero, suc, ◌<◌, Bool, true, false, T, ◌≢◌, List, [], ◌∷◌, length, slice_index}
+use Rattle.std.proofs.Common.{ap}
 use mathlib.Core.HLevel.{Σ_prop_path, Σ_prop_discrete}
 use Rattle.std.proofs.Math.Decide.{ℕ_discrete}
 use Rattle.std.proofs.Math.Dec.{T_prop}

@@ -1,6 +1,6 @@
 -- The two questions of reading a line, in order, and the answer that each way gives.
 -- Used by: ends_after, read_line.
-use Rattle.std.proofs.Common.{◌≡◌, ℕ, ◌+◌, ◌-◌, ◌*◌, ◌<◌, ◌≤◌, true, false, cond, eqb, List, length, drop, Ok, Err, sym, ap, ◌∙◌, arith, length-drop}
+use Rattle.std.proofs.Common.{◌≡◌, ℕ, ◌+◌, ◌*◌, ◌<◌, ◌≤◌, true, false, cond, eqb, List, length, drop, Ok, Err, sym, ap, ◌∙◌, arith, length-drop}
 use Rattle.std.specs.Result as results
 use Rattle.std.proofs.lemmas.Bool.Decides.{nat_tests}
 use Rattle.column.specs.Line.{line_length, before_newline, exact, numbers, values, reading_line, after_line, taken_words}

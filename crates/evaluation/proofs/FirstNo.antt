@@ -1,9 +1,9 @@
 -- Finding the first of a list that fails a test: one turn of a walk, over words and over the terms of a text.
-use Rattle.std.proofs.Common.{◌≡◌, ℕ, zero, suc, ◌+◌, ◌-◌, ◌*◌, ◌<◌, ◌≤◌, Bool, true, false, cond, ◌&&◌, leb, List, [], ◌∷◌, length, get_or, drop, Some, None, Option, sym, refl, ap, ◌∙◌, ap₂, add-one, arith, drop-cons}
+use Rattle.std.proofs.Common.{◌≡◌, ℕ, suc, ◌+◌, ◌-◌, ◌<◌, ◌≤◌, Bool, true, false, cond, ◌&&◌, leb, List, [], ◌∷◌, length, get_or, drop, Some, None, sym, refl, ap, ◌∙◌, add-one, arith, drop-cons}
 use Rattle.std.proofs.lemmas.List.{drop_all}
 use Rattle.evaluation.specs.Evaluation.{Term}
 use Rattle.evaluation.specs.Basis.{words, next, terms, after_lines}
-use Rattle.evaluation.specs.Answer.{first_no, first_no_from, exponents_stand}
+use Rattle.evaluation.specs.Answer.{first_no_from, exponents_stand}
 
 pub exponents_more : (i : ℕ) (t : Term) → exponents_stand (i + 1) t ≡ (exponents_stand i t && leb (get_or t (i + 1) 0) 48)
 unfolding exponents_stand

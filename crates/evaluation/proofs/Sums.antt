@@ -1,5 +1,5 @@
 -- One turn of each loop of an evaluation.
-use Rattle.std.proofs.Common.{◌≡◌, ℕ, suc, ◌+◌, List, get_or, refl, ap, add-one}
+use Rattle.std.proofs.Common.{◌≡◌, ℕ, ◌+◌, List, get_or, add-one}
 use Rattle.field.specs.Meaning.{FieldMeaning}
 use Rattle.evaluation.specs.Evaluation.{Term, power, term_value}
 

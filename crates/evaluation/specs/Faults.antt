@@ -6,7 +6,6 @@
 --   report_of e    the four numbers that a refusal prints: number, layer, line, place
 -- Used by: the answer of the program, and ProbeFault::report.
 use Rattle.std.specs.Prelude.{ℕ, cond, List, [], ◌∷◌, nat_le}
-use Rattle.column.specs.declared.line.LineFault.{LineFault}
 use Rattle.column.specs.declared.line.LineFault.TheVariants.{WrongLength, NotANumber}
 use Rattle.field.specs.Faults as field
 use Rattle.evaluation.specs.declared.fault.ProbeFault.{ProbeFault}

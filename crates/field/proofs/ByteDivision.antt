@@ -1,6 +1,5 @@
 -- The remainder is what division by the modulus leaves.
-use Rattle.std.proofs.Common.{◌≡◌, ℕ, zero, suc, ◌+◌, ◌-◌, ◌*◌, ◌/◌, ◌%◌, ◌^◌, ◌<◌, ◌≤◌, T, eqb, sym, refl, ap, ◌∙◌, subst, ap₂, one-mul, zero-mul, arith, eqb→eq}
-use mathlib.Core.Path.{subst⁻¹}
+use Rattle.std.proofs.Common.{◌≡◌, ℕ, zero, suc, ◌+◌, ◌*◌, ◌/◌, ◌%◌, ◌^◌, ◌<◌, ◌≤◌, T, eqb, sym, refl, ap, ◌∙◌, ap₂, one-mul, zero-mul, arith, eqb→eq}
 use lib.Bits.{bit_xor, xor_comm, xor_assoc, xor_self, xor_zero_r, xor_lt}
 use lib.Pow.{pow-lt}
 use Rattle.field.specs.Bytes.{poly_product, poly_remainder, byte_product, power_254, ProductDivides, ByteExamples}

@@ -1,5 +1,5 @@
 -- One turn of each loop of the product of bytes.
-use Rattle.std.proofs.Common.{◌≡◌, ℕ, zero, suc, ◌+◌, ◌-◌, ◌*◌, ◌/◌, ◌%◌, ◌^◌, ◌<◌, ◌≤◌, sym, refl, ap, ◌∙◌, subst, ap₂, pow-suc, arith, pow_pos, pow_mono}
+use Rattle.std.proofs.Common.{◌≡◌, ℕ, zero, suc, ◌+◌, ◌-◌, ◌*◌, ◌/◌, ◌%◌, ◌^◌, ◌<◌, ◌≤◌, sym, ap, ◌∙◌, pow-suc, arith, pow_mono}
 use mathlib.Core.Path.{subst⁻¹}
 use lib.Bits.{bit_xor, xor_lt}
 use Rattle.std.proofs.lemmas.Nat.{shr-shr, mul-le, shl_whole}

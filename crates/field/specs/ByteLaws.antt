@@ -1,9 +1,9 @@
 -- The laws of the byte field. The product goes through exclusive or in each factor, so a law of products
 -- needs a test at the powers of 2 alone; inverses are tested at each byte.
-use Rattle.std.specs.Prelude.{◌≡◌, ℕ, zero, suc, ◌+◌, ◌-◌, ◌*◌, ◌/◌, ◌%◌, ◌^◌, ◌<◌, ◌≤◌, Bool, true, false, ◌&&◌, ◌||◌, T, ◌==◌, nat_eq, refl}
-use Rattle.std.proofs.Common.{sym, ap, ◌∙◌, subst, ⊎_elim, pow-suc, mod-lt, pos_of_ne-zero, arith, eqb→eq, ltb→lt, lt→ltb, lit<}
+use Rattle.std.specs.Prelude.{◌≡◌, ℕ, zero, suc, ◌+◌, ◌%◌, ◌^◌, ◌<◌, ◌≤◌, Bool, true, false, ◌&&◌, ◌||◌, T, ◌==◌, nat_eq, refl}
+use Rattle.std.proofs.Common.{ap, ◌∙◌, ⊎_elim, pow-suc, mod-lt, pos_of_ne-zero, arith, eqb→eq, ltb→lt, lt→ltb, lit<}
 use Rattle.std.proofs.Math.Path.{subst⁻¹}
-use Rattle.std.specs.Int.Bits.{bit_xor, xor_assoc, xor_self, xor_zero_r}
+use Rattle.std.specs.Int.Bits.{xor_assoc, xor_self, xor_zero_r}
 use Rattle.std.proofs.lemmas.Nat.{xor_comm, xor_lt, xor_mod}
 use Rattle.std.proofs.lemmas.Bool.{cases_lt}
 use Rattle.field.specs.Meaning.{FieldLaws, total}

@@ -2,8 +2,8 @@
 use Rattle.std.specs.Prelude.{◌≡◌, ℕ, zero, suc, ◌+◌, ◌-◌, ◌*◌, ◌%◌, ◌<◌, ◌≤◌, Bool, true, false, cond, T, ◌≢◌, Some, None, Option, ◌==◌, nat_lt, refl}
 use Rattle.std.proofs.Common.{sym, ap, ◌∙◌, subst, ⊎_elim, pos_of_ne-zero, mod-lt, mod-eq_of_lt, add_comm, mul_comm, arith, ltb→lt, lt→ltb}
 use Rattle.std.proofs.Math.Nat as nat
-use Rattle.std.proofs.Math.Nat.{mod_self, zero-mod, add-mod-mod}
-use Rattle.std.proofs.lemmas.Bool.{cases_eq, cases_lt, eqb-true, eqb-false}
+use Rattle.std.proofs.Math.Nat.{mod_self, add-mod-mod}
+use Rattle.std.proofs.lemmas.Bool.{cases_lt, eqb-true, eqb-false}
 use Rattle.field.specs.Meaning.{FieldLaws, total}
 use Rattle.field.specs.Primes.{listed}
 use Rattle.field.specs.Residues.{residues, inverse_below}

@@ -1,10 +1,10 @@
 -- Close: from what the making of the tables answers to what the call answers.
-use Rattle.std.proofs.Common.{◌≡◌, ℕ, Bool, true, false, List, [], ◌∷◌, IsErrAnd, Ok, Err, Result, sym, refl, ap, ◌∙◌, subst, inl, inr}
+use Rattle.std.proofs.Common.{◌≡◌, ℕ, true, false, [], ◌∷◌, IsErrAnd, Ok, Err, Result, sym, ap, ◌∙◌, subst, inr}
 use Rattle.std.proofs.lemmas.Bool.{true≢false}
-use Rattle.field.specs.Meaning.{FieldMeaning, FieldLaws}
+use Rattle.field.specs.Meaning.{FieldMeaning}
 use Rattle.order.specs.Laws.{Comparison, OrderLaws}
-use Rattle.runs.specs.Question.{single, Refused}
-use Rattle.runs.specs.Job.{Job, opened, shut}
+use Rattle.runs.specs.Question.{single}
+use Rattle.runs.specs.Job.{opened, shut}
 use Rattle.runs.specs.Close.{basis_asks}
 use Rattle.runs.specs.Call.{close, refused, accepted}
 use Rattle.polynomials.specs.Held.{held}
@@ -16,7 +16,7 @@ use Rattle.polynomials.specs.declared.store.Polynomials.{Polynomials}
 use Rattle.tables.specs.Holds.{Holds}
 use Rattle.tables.specs.Making.{Made}
 use Rattle.job.specs.declared.job.Table.{Table}
-use Rattle.job.specs.State.{state, Kept}
+use Rattle.job.specs.State.{state}
 use Rattle.job.specs.Promise.{answer_of, Promised}
 use Rattle.job.proofs.Promises.{stage_opened, open_refused, is_error, broken, changed}
 

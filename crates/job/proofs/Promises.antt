@@ -1,12 +1,11 @@
 -- What follows from the answer of a call: the run stays whole, and the job is again as calls leave it.
-use Rattle.std.proofs.Common.{◌≡◌, ℕ, Bool, true, false, cond, ◌⊎◌, List, [], ◌∷◌, ◌++◌, length, IsErrAnd, Ok, Err, Result, sym, refl, ap, ◌∙◌, subst, inl, inr, arith}
+use Rattle.std.proofs.Common.{◌≡◌, ℕ, Bool, true, false, cond, List, [], ◌∷◌, length, IsErrAnd, Ok, Err, Result, sym, refl, ap, ◌∙◌, subst, inl, arith}
 use Rattle.std.proofs.lemmas.Bool.{true≢false}
 use Rattle.field.specs.Meaning.{FieldMeaning, FieldLaws}
 use Rattle.order.specs.Laws.{Comparison, OrderLaws}
-use Rattle.runs.specs.Question.{Question, single, AllYes, Refused}
-use Rattle.runs.specs.Job.{Job, Stage, opened, closed, new}
-use Rattle.runs.specs.Call.{Call, Answer, refused, accepted, asks, Answers, after, Answered}
-use Rattle.runs.specs.Sound.{Sound}
+use Rattle.runs.specs.Question.{Question, single, Refused}
+use Rattle.runs.specs.Job.{Stage, opened, closed}
+use Rattle.runs.specs.Call.{Call, Answer, refused, asks, Answers, after, Answered}
 use Rattle.runs.proofs.Runs.{sound_kept}
 use Rattle.runs.proofs.WholeRuns.{answers_keep_whole}
 use Rattle.std.proofs.lemmas.Result.{err_from_is_err_and}

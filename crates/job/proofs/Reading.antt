@@ -3,9 +3,9 @@ use Rattle.std.proofs.Common.{◌≡◌, ℕ, ◌≤◌, Bool, true, false, cond
 use Rattle.field.specs.Meaning.{FieldMeaning, FieldLaws}
 use Rattle.order.specs.Laws.{Comparison, OrderLaws}
 use Rattle.runs.specs.Question.{single, AllYes, Refused}
-use Rattle.runs.specs.Job.{Job, Term, opened, closed}
+use Rattle.runs.specs.Job.{Term, opened, closed}
 use Rattle.runs.specs.Generators.{D}
-use Rattle.runs.specs.Call.{Call, convert, reduce, Answer, refused, accepted, asks, Answers, after}
+use Rattle.runs.specs.Call.{Call, convert, reduce, refused, accepted, asks, Answers, after}
 use Rattle.runs.specs.Sound.{Sound}
 use Rattle.polynomials.specs.Held.{held}
 use Rattle.polynomials.specs.declared.fault.JobFault.{JobFault}

@@ -1,5 +1,5 @@
 -- The staircase of a closed job, as its tables hold it.
-use Rattle.std.proofs.Common.{◌≡◌, ℕ, pred, ◌-◌, ◌<◌, ◌≤◌, Bool, true, false, cond, ◌&&◌, ltb, leb, ◌≢◌, List, map, length, get_or, take, Some, None, Option, sym, refl, ap, ◌∙◌, subst, ap₂, sub-one, arith}
+use Rattle.std.proofs.Common.{◌≡◌, ℕ, pred, ◌-◌, ◌<◌, ◌≤◌, Bool, true, false, cond, ◌&&◌, ltb, leb, ◌≢◌, List, length, get_or, Some, None, Option, sym, ap, ◌∙◌, subst, ap₂, sub-one, arith}
 use native.Mathlib.Decide.{dec_lt}
 use Rattle.std.proofs.lemmas.List.{get_or-take, get_or-map}
 use Rattle.std.proofs.lemmas.Bool.{lt-ltb, le-ltb, le-leb, lt-leb}
@@ -10,7 +10,7 @@ use Rattle.order.specs.Laws.{Comparison}
 use Rattle.algebra.specs.Monomial.{Mono, one}
 use Rattle.algebra.specs.Records.{flat, before_by}
 use Rattle.algebra.specs.Basis as basis
-use Rattle.runs.specs.Job.{Job, Stage, opened, closed, Term}
+use Rattle.runs.specs.Job.{Job, closed}
 use Rattle.runs.specs.Generators.{generators, D, stair_at}
 use Rattle.tables.specs.declared.tables.Tables.{Tables}
 use Rattle.tables.specs.Holds.{Holds}

@@ -6,7 +6,7 @@
 --     run_whole                      every run that ends in the job before, with this call and its answer appended, is whole
 --   stair_of m laws cmp j p stage    the monomial at place p, from 1 to D, of the staircase of a closed job; otherwise none
 -- Used by: the contract of each call.
-use Rattle.std.specs.Prelude.{◌≡◌, ℕ, pred, cond, ◌&&◌, List, Some, None, Ok, Err, Option, Result, nat_le}
+use Rattle.std.specs.Prelude.{ℕ, pred, cond, ◌&&◌, List, Some, None, Ok, Err, Option, Result, nat_le}
 use Rattle.field.specs.Meaning.{FieldMeaning, FieldLaws}
 use Rattle.order.specs.declared.monomial.Monomial.{Monomial}
 use Rattle.order.specs.Laws.{Comparison}

@@ -3,7 +3,7 @@
 --   Kept m laws cmp t        a job as calls leave it: it is sound, and where it is closed its tables are those of its polynomials
 --   SameButTables t u      u holds what t holds, but for the tables, which are free words while a job is open
 -- Used by: the contract of each call.
-use Rattle.std.specs.Prelude.{◌≡◌, ℕ, Bool, true, cond}
+use Rattle.std.specs.Prelude.{◌≡◌, true, cond}
 use Rattle.field.specs.Meaning.{FieldMeaning, FieldLaws}
 use Rattle.order.specs.Laws.{Comparison}
 use Rattle.runs.specs.Job.{Job, opened, closed}

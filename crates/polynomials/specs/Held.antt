@@ -4,7 +4,7 @@
 --   entries s       the polynomials of the store s, first to last, by the code's terms
 --   held s          the same by a job's terms
 -- Used by: whatever reads or changes the polynomials of a job.
-use Rattle.std.specs.Prelude.{ℕ, suc, ◌-◌, List, map, slice_index, slice_range}
+use Rattle.std.specs.Prelude.{ℕ, suc, List, map, slice_index, slice_range}
 use Rattle.algebra.specs.Lists.{build}
 use Rattle.runs.specs.Job as job
 use Rattle.staircase.specs.declared.rules.Term.{Term}

@@ -12,7 +12,7 @@ use Rattle.order.specs.Monomials.{largest, raise}
 use Rattle.order.specs.Laws.{Comparison, OrderLaws}
 use Rattle.order.specs.Exponents as exponents
 use Rattle.algebra.specs.Lists.{any}
-use Rattle.algebra.specs.Monomial.{Mono, one, times, var, equal, exponent}
+use Rattle.algebra.specs.Monomial.{Mono, one, times, var, equal}
 use Rattle.algebra.specs.Order.{Small, Ordered}
 use Rattle.algebra.specs.Records.{nested, flat, Within, before_by}
 use Rattle.algebra.specs.Staircase.{sorted}

@@ -8,7 +8,7 @@ use Rattle.order.specs.declared.monomial.Monomial.{Monomial}
 use Rattle.order.specs.Monomials as record_of
 use Rattle.order.specs.Monomials.{variables, largest}
 use Rattle.order.specs.Laws.{Comparison, OrderLaws}
-use Rattle.algebra.specs.Monomial.{Mono, one, times, var, equal, exponent, Among}
+use Rattle.algebra.specs.Monomial.{Mono, one, times, var, equal, Among}
 use Rattle.algebra.specs.Order.{Small}
 use Rattle.algebra.specs.Records.{nested, flat, Within, less, before_by}
 use Rattle.algebra.specs.Staircase.{insert, sorted}

@@ -1,5 +1,5 @@
 -- Clamped terms are asked as the terms are: a no comes to the same term, and where all are in range the terms are equal.
-use Rattle.std.proofs.Common.{◌≡◌, ℕ, zero, suc, ◌<◌, T, ◌≢◌, List, [], ◌∷◌, length, get_or, sym, refl, ap, subst, ap₂, inl, inr, arith}
+use Rattle.std.proofs.Common.{◌≡◌, ℕ, suc, ◌<◌, T, ◌≢◌, List, [], ◌∷◌, length, get_or, sym, refl, ap, subst, ap₂, inl, inr, arith}
 use lib.ListN.{length-map}
 use Rattle.std.proofs.lemmas.List.{get_or-map}
 use Rattle.field.specs.Meaning.{FieldMeaning}

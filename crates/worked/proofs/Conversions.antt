@@ -1,6 +1,6 @@
 -- Convert of a closed job by tests over words: an accepted one by the words of a dual family of the table's rows, a refusal of 24 by the
 -- coefficients of a Krylov vector that depends on those before it, and a refusal of 25 by those of a short recurrence.
-use Rattle.std.proofs.Common.{◌≡◌, ℕ, zero, suc, ◌+◌, ◌*◌, ◌<◌, ◌≤◌, Bool, true, cond, ◌&&◌, ◌||◌, T, eqb, ltb, ◌≢◌, ◌⊎◌, List, [], ◌∷◌, length, get_or, sym, refl, ap, ◌∙◌, ap₂, inl, inr, arith}
+use Rattle.std.proofs.Common.{◌≡◌, ℕ, suc, ◌+◌, ◌*◌, ◌<◌, ◌≤◌, Bool, true, cond, ◌&&◌, ◌||◌, T, eqb, ltb, ◌≢◌, ◌⊎◌, List, [], ◌∷◌, length, get_or, sym, refl, ap, ◌∙◌, ap₂, inl, inr, arith}
 use Rattle.std.proofs.lemmas.Bool.{and_parts, or_cases, eqb-true, ltb-true, lt-ltb}
 use Rattle.field.specs.Meaning.{FieldMeaning, FieldLaws}
 use Rattle.order.specs.Laws.{Comparison, OrderLaws}
@@ -12,7 +12,7 @@ use Rattle.algebra.specs.Elements.{Elem, Elems, field_of, el, read}
 use Rattle.algebra.specs.Lists.{build}
 use Rattle.algebra.specs.NormalForm.{total}
 use Rattle.algebra.specs.Records.{before_by}
-use Rattle.algebra.specs.Shape.{HasShape, LeastAlone, ShapeDecided, vectors}
+use Rattle.algebra.specs.Shape.{HasShape, LeastAlone, ShapeDecided}
 use Rattle.algebra.specs.Words.{words}
 use Rattle.algebra.proofs.Elements.{el_word}
 use Rattle.algebra.proofs.Lists.{get_or_build}

@@ -1,4 +1,4 @@
-use Rattle.std.proofs.Common.{true, false, get_or, refl, ap, ◌∙◌, arith}
+use Rattle.std.proofs.Common.{get_or, refl, ap, ◌∙◌, arith}
 use mathlib.Core.Bool.{false≢true}
 use Rattle.conversion.proofs.Standing.{front_elems, steps}
 use Rattle.conversion.proofs.powers.advance.Goals as goal

@@ -1,4 +1,4 @@
-use Rattle.std.proofs.Common.{refl, arith}
+use Rattle.std.proofs.Common.{refl}
 use Rattle.evaluation.proofs.Passing.{line_inside}
 use Rattle.evaluation.proofs.Deciding.{four, wrote_as, text_refused, header_unread, header_read}
 use Rattle.evaluation.proofs.answer.answer_text.Goals as goal

@@ -1,4 +1,4 @@
-use Rattle.std.proofs.Common.{◌≤◌, length, sym, refl, ap, ◌∙◌, arith}
+use Rattle.std.proofs.Common.{◌≤◌, length, ap, arith}
 use Rattle.column.specs.Line.{line}
 use Rattle.column.proofs.Lines.{line_length_is}
 use Rattle.evaluation.proofs.Deciding.{values_printed, fault_printed}

@@ -1,4 +1,4 @@
-use Rattle.std.proofs.Common.{sym, ◌∙◌}
+use Rattle.std.proofs.Common.{◌∙◌}
 use Rattle.std.proofs.lemmas.Result.{err_from_is_err_and}
 use Rattle.evaluation.proofs.Asking.{polynomials_none, polynomials_more, polynomials-broken, polynomials_passed}
 use Rattle.evaluation.proofs.basis.ask_polynomials.Goals as goal

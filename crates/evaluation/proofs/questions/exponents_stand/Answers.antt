@@ -1,4 +1,4 @@
-use Rattle.std.proofs.Common.{◌+◌, Bool, ◌&&◌, leb, get_or, sym, refl, ap, ◌∙◌}
+use Rattle.std.proofs.Common.{refl}
 use Rattle.evaluation.specs.Answer.{exponents_stand}
 use Rattle.evaluation.proofs.FirstNo.{exponents_more}
 use Rattle.evaluation.proofs.questions.exponents_stand.Goals as goal

@@ -1,4 +1,4 @@
-use Rattle.std.proofs.Common.{◌≡◌, suc, ◌+◌, ◌-◌, ◌≤◌, length, drop}
+use Rattle.std.proofs.Common.{◌≡◌, ◌+◌, ◌-◌, ◌≤◌, length, drop}
 use Rattle.evaluation.specs.Answer.{first_no, first_no_from}
 use Rattle.evaluation.specs.Basis.{terms}
 use Rattle.evaluation.specs.Steps.{stands_by}

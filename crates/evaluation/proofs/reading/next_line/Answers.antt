@@ -1,4 +1,4 @@
-use Rattle.std.proofs.Common.{length, sym, refl, ap, ◌∙◌, arith}
+use Rattle.std.proofs.Common.{length, refl, arith}
 use Rattle.evaluation.proofs.Passing.{line_passed, line_inside}
 use Rattle.evaluation.proofs.reading.next_line.Goals as goal
 

@@ -1,7 +1,5 @@
-use Rattle.std.proofs.Common.{◌≡◌, ◌+◌, ◌-◌, ◌≤◌, length, drop}
-use Rattle.evaluation.specs.Answer.{asks_lines}
-use Rattle.evaluation.specs.Basis.{after_lines}
-use Rattle.evaluation.specs.Steps.{Counted, Walked}
+use Rattle.std.proofs.Common.{◌≡◌, length}
+use Rattle.evaluation.specs.Steps.{Walked}
 use Rattle.evaluation.proofs.reading.pass_lines.Given as goal
 
 abbrev pub invariant-loop-i : goal.invariant-loop-i

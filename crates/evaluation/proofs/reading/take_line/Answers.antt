@@ -1,5 +1,3 @@
-use Rattle.std.proofs.Common.{◌≡◌, ℕ, List, length, drop, replicate, sym, refl, ap, ◌∙◌, ap₂}
-use Rattle.evaluation.specs.Basis.{words}
 use Rattle.evaluation.proofs.Passing.{zeros_then_words}
 use Rattle.evaluation.proofs.reading.take_line.Goals as goal
 

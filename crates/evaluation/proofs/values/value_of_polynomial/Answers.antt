@@ -1,4 +1,4 @@
-use Rattle.std.proofs.Common.{length, drop, rules}
+use Rattle.std.proofs.Common.{length, drop}
 use Rattle.evaluation.proofs.Summing.{of_polynomial}
 use Rattle.evaluation.proofs.values.value_of_polynomial.Goals as goal
 

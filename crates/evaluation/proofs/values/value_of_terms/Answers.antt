@@ -1,4 +1,4 @@
-use Rattle.std.proofs.Common.{◌≡◌, ℕ, ◌+◌, length, drop, sym, ap, ◌∙◌, arith}
+use Rattle.std.proofs.Common.{◌≡◌, ℕ, ◌+◌, length, drop, ap, ◌∙◌, arith}
 use Rattle.evaluation.specs.Basis.{words}
 use Rattle.evaluation.specs.Evaluation.{term_value}
 use Rattle.evaluation.proofs.Summing.{summed_none, summed_more, summed_all}

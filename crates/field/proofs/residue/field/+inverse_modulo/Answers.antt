@@ -1,5 +1,4 @@
-use Rattle.std.proofs.Common.{◌≡◌, ℕ, ◌+◌, ◌-◌, ◌*◌, ◌/◌, ◌%◌, ◌<◌, ◌≤◌, ap, ◌∙◌, mod-lt, mod-eq_of_lt, arith}
-use mathlib.Core.Path.{subst⁻¹}
+use Rattle.std.proofs.Common.{◌≡◌, ◌*◌, ◌%◌, ◌<◌, ap, ◌∙◌, mod-lt, mod-eq_of_lt, arith}
 use Rattle.field.specs.Primality.{tested, no_divisor}
 use Rattle.field.specs.ResidueInverse.{step}
 use Rattle.field.proofs.residue.field.+inverse_modulo.Goals as goal

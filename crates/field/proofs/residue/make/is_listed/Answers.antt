@@ -1,5 +1,5 @@
-use Rattle.std.proofs.Common.{◌≡◌, Bool, true, false, ◌||◌, eqb, sym, refl, ap}
-use Rattle.field.specs.Primes.{listed, among}
+use Rattle.std.proofs.Common.{◌≡◌, Bool, true, false, ◌||◌, refl}
+use Rattle.field.specs.Primes.{listed}
 use Rattle.field.proofs.residue.make.is_listed.Goals as goal
 
 or_false : (a : Bool) → (a || false) ≡ a

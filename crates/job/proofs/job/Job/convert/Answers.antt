@@ -1,4 +1,4 @@
-use Rattle.std.proofs.Common.{◌≡◌, ◌*◌, true, false, length, take, refl}
+use Rattle.std.proofs.Common.{◌≡◌, ◌*◌, true, length, take, refl}
 use Rattle.runs.specs.Call.{convert}
 use Rattle.polynomials.specs.Held.{held}
 use Rattle.job.proofs.Reading.{sound_closed, only_reads, open_converts, converted}

@@ -1,4 +1,4 @@
-use Rattle.std.proofs.Common.{◌≡◌, true, false, length, take, refl, rules}
+use Rattle.std.proofs.Common.{◌≡◌, true, length, take, refl, rules}
 use Rattle.runs.specs.Call.{reduce}
 use Rattle.polynomials.specs.Held.{held, terms_of}
 use Rattle.job.proofs.Promises.{broken}

@@ -1,5 +1,5 @@
 use Rattle.std.proofs.Common.{◌≡◌, Bool, true, cond, sym, ap, ◌∙◌, arith}
-use Rattle.runs.specs.Job.{Stage, opened, closed}
+use Rattle.runs.specs.Job.{opened, closed}
 use Rattle.job.specs.State.{state}
 use Rattle.job.specs.Promise.{stair_of}
 use Rattle.job.proofs.Stairs.{stair_held}

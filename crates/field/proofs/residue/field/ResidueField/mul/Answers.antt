@@ -1,4 +1,4 @@
-use Rattle.std.proofs.Common.{◌+◌, ◌*◌, ◌<◌, ◌≤◌, mod-lt, arith}
+use Rattle.std.proofs.Common.{◌*◌, ◌<◌, mod-lt, arith}
 use Rattle.field.specs.Primality.{tested}
 use Rattle.field.proofs.residue.field.ResidueField.mul.Goals as goal
 
