@@ -3,7 +3,7 @@
 use Rattle.std.proofs.Common.{◌≡◌, ℕ, zero, suc, ◌<◌, ◌≤◌, ◌⊎◌, ◌↔◌, List, ◌∷◌, sym, refl, ap, ◌∙◌, subst, ap₂, inl, inr, arith}
 use mathlib.Core.Path.{fun_ext}
 use native.Mathlib.Decide.{ℕ_discrete, dec_lt}
-use Rattle.std.specs.List.{AllByRecursion as All}
+use Rattle.std.specs.List.{AllByRecursion}
 use Rattle.std.proofs.ByRecursion.{All-weaker}
 use Rattle.algebra.specs.Field.{Field}
 use Rattle.algebra.specs.Vector.{sum, basis, apply}
@@ -45,7 +45,7 @@ pub record System {K : Type 0} (F : Field K) (n D : ℕ) (s : ℕ → Mono n) (L
   pub outside : (k i j : ℕ) → D ≤ j → A k j i ≡ F.zer
   pub inner : (k i r : ℕ) → k < n → i < D → r < D → s r ≡ times n (var n k) (s i) → (j : ℕ) → A k j i ≡ basis F r j
   pub good : (k i : ℕ) → k < n → i < D → columns.Good F n L D s (λ j. A k j i) (times n (var n k) (s i))
-  pub monic : All (λ l. (k : ℕ) × (i : ℕ) × (k < n) × (i < D) × (◌≈◌ F n l ((F.one, times n (var n k) (s i)) ∷ combination D s (λ j. F.neg (A k j i))))) L
+  pub monic : AllByRecursion (λ l. (k : ℕ) × (i : ℕ) × (k < n) × (i < D) × (◌≈◌ F n l ((F.one, times n (var n k) (s i)) ∷ combination D s (λ j. F.neg (A k j i))))) L
 
 module _ {K : Type 0} (F : Field K) (n D : ℕ) (s : ℕ → Mono n) (L : List (Poly K n)) (A : ℕ → ℕ → ℕ → K) (B : System F n D s L A) where
   open F use {zer, one, ◌⊕◌, ◌⊗◌, neg, add_neg}

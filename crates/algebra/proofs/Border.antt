@@ -1,7 +1,7 @@
 -- The border: the computed list holds exactly the products of a staircase monomial and a variable that are outside it.
 use Rattle.std.proofs.Common.{◌≡◌, ℕ, ◌<◌, Bool, true, false, not, ◌⊎◌, ◌↔◌, List, map, length, get_or, filter, sym, refl, ◌∙◌, subst, inl, inr}
 use mathlib.Core.Bool.{false≢true}
-use Rattle.std.specs.List.{AllByRecursion as All}
+use Rattle.std.specs.List.{AllByRecursion}
 use Rattle.std.proofs.ByRecursion.{All-from_get_or, All-map, All-weaker}
 use Rattle.std.proofs.lemmas.Bool.{not-true, not_from_false, cases_Bool}
 use Rattle.algebra.specs.Lists.{any, joined}
@@ -28,7 +28,7 @@ module _ (n : ℕ) (before : Mono n → Mono n → Bool) (S : List (Mono n)) whe
   abbrev E : List (Mono n)
   E = border n before S
 
-  products : All (Edge n S) (filter (λ m. not (any (equal n m) S)) (joined n (λ k. map (times n (var n k)) S)))
+  products : AllByRecursion (Edge n S) (filter (λ m. not (any (equal n m) S)) (joined n (λ k. map (times n (var n k)) S)))
   products =
       All-weaker _ (Edge n S)
       (λ t x. let y = x.0 in record { k = y.0; i = y.1; kn = y.2; within = y.3; is = y.4; out = not-true _ x.1 })
@@ -36,7 +36,7 @@ module _ (n : ℕ) (before : Mono n → Mono n → Bool) (S : List (Mono n)) whe
       (lists.all_kept (λ t. (k : ℕ) × (i : ℕ) × (k < n) × (i < length S) × (t ≡ times n (var n k) (get_or S i (one n)))) _ _
       (lists.all_joined _ n _ (λ k l. All-map _ (times n (var n k)) S (All-from_get_or (λ m. (k' : ℕ) × (i : ℕ) × (k' < n) × (i < length S) × (times n (var n k) m ≡ times n (var n k') (get_or S i (one n)))) S (one n) (λ i q. (k, i, l, q, refl))))))
 
-  pub edge_to : All (Edge n S) E
+  pub edge_to : AllByRecursion (Edge n S) E
   edge_to = sorting.all_sorted n before (Edge n S) _ products
 
   pub edge_from : (t : Mono n) → Edge n S t → Has n t E
@@ -70,7 +70,7 @@ module _ (n : ℕ) (before : Mono n → Mono n → Bool) (S : List (Mono n)) whe
     only_border : (R : List (Mono n)) → IsBorder n before S R → R ≡ E
     only_border R Q = sorting.rising-equal n before O R E (All-weaker _ _ small R edges) (All-weaker _ _ small E edge_to) Q.rising edge_rising (λ t h. monos.among_has n t E ((is_border.exactly t).1 ((Q.exactly t).0 (monos.has_among n t R h)))) (λ t h. monos.among_has n t R ((Q.exactly t).1 ((is_border.exactly t).0 (monos.has_among n t E h))))
       where
-        edges : All (Edge n S) R
+        edges : AllByRecursion (Edge n S) R
         edges = All-from_get_or (Edge n S) R (one n) (λ i l. edge_of _ (monos.among_has n _ E ((is_border.exactly _).1 ((Q.exactly _).0 (i, l, refl)))))
 
     pub border_exactly : (R : List (Mono n)) → IsBorder n before S R ↔ (R ≡ E)

@@ -4,7 +4,7 @@ use Rattle.std.proofs.Common.{◌≡◌, ℕ, zero, suc, ◌<◌, ◌≤◌, Boo
 use mathlib.Core.Path.{fun_ext}
 use native.Mathlib.Decide.{ℕ_discrete, dec_lt}
 use lib.Dec.{eqb-suc-zero, eqb-suc-suc}
-use Rattle.std.specs.List.{AllByRecursion as All}
+use Rattle.std.specs.List.{AllByRecursion}
 use Rattle.std.proofs.lemmas.Bool.{eq-eqb, ne_eqb}
 use Rattle.algebra.specs.Field.{Field}
 use Rattle.algebra.specs.Vector.{sum, basis, krylov, LinearMap}
@@ -31,7 +31,7 @@ module _ {K : Type 0} (F : Field K) (n k D : ℕ) (rows : ℕ → ℕ → K) whe
   generator_other i d = ap (λ (b : Bool). cond b (monic F n k D (rows i)) (solved F n k D i (rows i))) (ne_eqb i k d)
 
   -- what holds of each generator holds of the basis
-  pub shaped_all : (P : Poly K n → Type 0) → P (monic F n k D (rows k)) → ((i : ℕ) → i < n → i ≢ k → P (solved F n k D i (rows i))) → (m : ℕ) → m ≤ n → All P (shaped F n k D rows m)
+  pub shaped_all : (P : Poly K n → Type 0) → P (monic F n k D (rows k)) → ((i : ℕ) → i < n → i ≢ k → P (solved F n k D i (rows i))) → (m : ℕ) → m ≤ n → AllByRecursion P (shaped F n k D rows m)
   shaped_all P a b zero l = tt
   shaped_all P a b (suc m) l = (go (ℕ_discrete m k), shaped_all P a b m (omega arith))
     where
@@ -161,7 +161,7 @@ module _ {K : Type 0} (F : Field K) (n k d : ℕ) (kn : k < n) (rows : ℕ → �
   evaluate_alone : (m : ℕ) (c : ℕ → K) (j : ℕ) → evaluate F n T e (combination m (power n k) c) j ≡ sum F m (λ l. c l ⊗ krylov F C e l j)
   evaluate_alone m c j = evaluation.evaluate_alone F n T commute e k kn m c j ∙ sums.sum_ext F m _ _ (λ l p. ap (λ x. c l ⊗ x) (by_k l j))
 
-  basis_dies : All (λ l. evaluate F n T e l ≡ (λ j. zer)) (shaped F n k D rows n)
+  basis_dies : AllByRecursion (λ l. evaluate F n T e l ≡ (λ j. zer)) (shaped F n k D rows n)
   basis_dies = shaped_all F n k D rows (λ l. evaluate F n T e l ≡ (λ j. zer)) first others n (omega arith)
     where
       first : evaluate F n T e (monic F n k D (rows k)) ≡ (λ j. zer)

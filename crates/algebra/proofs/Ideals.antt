@@ -1,7 +1,7 @@
 -- Ideals: membership by functionals, closure of the members, and functionals that kill the generators.
 use Rattle.std.proofs.Common.{◌≡◌, ℕ, zero, suc, ◌<◌, List, [], ◌∷◌, ◌++◌, length, get_or, sym, refl, ap, ◌∙◌, ap₂, arith}
 use mathlib.Core.Path.{fun_ext}
-use Rattle.std.specs.List.{AllByRecursion as All}
+use Rattle.std.specs.List.{AllByRecursion}
 use Rattle.algebra.specs.Field.{Field}
 use Rattle.algebra.specs.Monomial.{Mono, times}
 use Rattle.algebra.specs.Monomial as spec
@@ -23,14 +23,14 @@ module _ {K : Type 0} (F : Field K) where
         polys.ev_append F (mul F n (q 0) l) (multiplied F n (λ i. q (suc i)) L) w
         ∙ ap (λ x. x ⊕ ev F (multiplied F n (λ i. q (suc i)) L) w) (polys.ev_mul F n (q 0) l w)
 
-    kill : (L : List (Poly K n)) (w : Mono n → K) → All (λ l. (m : Mono n) → ev F l (λ b. w (times n m b)) ≡ zer) L → (q : ℕ → Poly K n) → ev F (multiplied F n q L) w ≡ zer
+    kill : (L : List (Poly K n)) (w : Mono n → K) → AllByRecursion (λ l. (m : Mono n) → ev F l (λ b. w (times n m b)) ≡ zer) L → (q : ℕ → Poly K n) → ev F (multiplied F n q L) w ≡ zer
     kill [] w h q = refl
     kill (l ∷ L) w h q =
         multiplied_cons l L q w
         ∙ ap₂ (λ x y. x ⊕ y) (ap (ev F (q 0)) (fun_ext h.0) ∙ sums.functional_zero F (polys.ev_functional F (q 0))) (kill L w h.1 (λ i. q (suc i)))
         ∙ add_zero zer
 
-    pub ideal_kill : (L : List (Poly K n)) (f : Poly K n) (w : Mono n → K) → All (λ l. (m : Mono n) → ev F l (λ b. w (times n m b)) ≡ zer) L → Member F n L f → ev F f w ≡ zer
+    pub ideal_kill : (L : List (Poly K n)) (f : Poly K n) (w : Mono n → K) → AllByRecursion (λ l. (m : Mono n) → ev F l (λ b. w (times n m b)) ≡ zer) L → Member F n L f → ev F f w ≡ zer
     ideal_kill L f w h i = polys.same-value F n f (multiplied F n i.0 L) i.1 w ∙ kill L w h i.0
 
     -- the functional φ is the value of a member
@@ -115,12 +115,12 @@ module _ {K : Type 0} (F : Field K) where
       pub ideal-mul : (r f : Poly K n) → Member F n L f → Member F n L (mul F n r f)
       ideal-mul r f i = from_in L (mul F n r f) (in-resp L (polys.ev_mul F n r f) (in-ev r (λ a. in_shift a (to_in L f i))))
 
-      in-multiplied : (N : List (Poly K n)) → All (Member F n L) N → (q : ℕ → Poly K n) → In L (ev F (multiplied F n q N))
+      in-multiplied : (N : List (Poly K n)) → AllByRecursion (Member F n L) N → (q : ℕ → Poly K n) → In L (ev F (multiplied F n q N))
       in-multiplied [] h q = in-zero L
       in-multiplied (f ∷ N) h q =
           in-resp L (polys.ev_append F (mul F n (q 0) f) (multiplied F n (λ i. q (suc i)) N))
           (in-add L (to_in L _ (ideal-mul (q 0) f h.0)) (in-multiplied N h.1 (λ i. q (suc i))))
 
       -- generators that are members generate members
-      pub ideal-within : (N : List (Poly K n)) → All (Member F n L) N → (f : Poly K n) → Member F n N f → Member F n L f
+      pub ideal-within : (N : List (Poly K n)) → AllByRecursion (Member F n L) N → (f : Poly K n) → Member F n N f → Member F n L f
       ideal-within N h f i = let j = to_in N f i in from_in L f (in-resp L j.1 (in-multiplied N h j.0))

@@ -1,7 +1,7 @@
 -- Lists made and searched by tests: what any, build, joined, least and kept-by give.
 use Rattle.std.proofs.Common.{◌≡◌, ℕ, zero, suc, ◌<◌, ◌≤◌, Bool, true, false, cond, List, [], ◌∷◌, ◌++◌, length, get_or, filter, sym, refl, ap, ◌∙◌, arith}
 use mathlib.Core.Bool.{false≢true}
-use Rattle.std.specs.List.{AllByRecursion as All}
+use Rattle.std.specs.List.{AllByRecursion}
 use Rattle.std.proofs.ByRecursion.{All-append}
 use Rattle.algebra.specs.Lists.{any, build, joined, least}
 
@@ -23,19 +23,19 @@ module _ {A : Type 0} where
       go true h = refl
       go false h = h
 
-  pub all_both : (P Q : A → Type 0) (l : List A) → All P l → All Q l → All (λ a. P a × Q a) l
+  pub all_both : (P Q : A → Type 0) (l : List A) → AllByRecursion P l → AllByRecursion Q l → AllByRecursion (λ a. P a × Q a) l
   all_both P Q [] h g = tt
   all_both P Q (a ∷ l) h g = ((h.0, g.0), all_both P Q l h.1 g.1)
 
-  pub all_joined : (P : A → Type 0) (n : ℕ) (f : ℕ → List A) → ((i : ℕ) → i < n → All P (f i)) → All P (joined n f)
+  pub all_joined : (P : A → Type 0) (n : ℕ) (f : ℕ → List A) → ((i : ℕ) → i < n → AllByRecursion P (f i)) → AllByRecursion P (joined n f)
   all_joined P zero f h = tt
   all_joined P (suc n) f h = All-append P (f 0) _ (h 0 (omega arith)) (all_joined P n (λ i. f (suc i)) (λ i q. h (suc i) (omega arith)))
 
-  pub all_kept : (P : A → Type 0) (p : A → Bool) (l : List A) → All P l → All (λ a. P a × (p a ≡ true)) (filter p l)
+  pub all_kept : (P : A → Type 0) (p : A → Bool) (l : List A) → AllByRecursion P l → AllByRecursion (λ a. P a × (p a ≡ true)) (filter p l)
   all_kept P p [] h = tt
   all_kept P p (a ∷ l) h = go (p a) refl (all_kept P p l h.1)
     where
-      go : (b : Bool) → p a ≡ b → All (λ a. P a × (p a ≡ true)) (filter p l) → All (λ a. P a × (p a ≡ true)) (cond b (a ∷ filter p l) (filter p l))
+      go : (b : Bool) → p a ≡ b → AllByRecursion (λ a. P a × (p a ≡ true)) (filter p l) → AllByRecursion (λ a. P a × (p a ≡ true)) (cond b (a ∷ filter p l) (filter p l))
       go true e x = ((h.0, e), x)
       go false e x = x
 

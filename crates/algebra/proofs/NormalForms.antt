@@ -2,7 +2,7 @@
 -- the finished table keeps the two rules.
 use Rattle.std.proofs.Common.{◌≡◌, ℕ, ◌<◌, ◌≤◌, Bool, true, false, cond, ◌&&◌, leb, ◌≢◌, ◌⊎◌, List, [], ◌∷◌, length, get_or, sym, refl, ap, ◌∙◌, subst, ap₂, inl, inr, arith}
 use mathlib.Core.Bool.{false≢true}
-use Rattle.std.specs.List.{AllByRecursion as All}
+use Rattle.std.specs.List.{AllByRecursion}
 use Rattle.std.proofs.lemmas.Bool.{cases_Bool, le-leb}
 use Rattle.algebra.specs.Field.{Field}
 use Rattle.algebra.specs.Vector.{basis, apply, Least}
@@ -87,7 +87,7 @@ module _ {K : Type 0} (F : Field K) (n : ℕ) (before : Mono n → Mono n → Bo
       go false z (inl y) = inl (sym (ap (λ b. cond b true (any (equal n u) ts)) (monos.equal_sym n t u z)) ∙ y)
       go false z (inr y) = inr y
 
-  filled : (ts : List (Mono n)) (tab : Table K n) → Rising n before ts → All Edge ts → Done ts tab → (u : Mono n) → Edge u → Right u (look n (filled_by ts tab) u)
+  filled : (ts : List (Mono n)) (tab : Table K n) → Rising n before ts → AllByRecursion Edge ts → Done ts tab → (u : Mono n) → Edge u → Right u (look n (filled_by ts tab) u)
   filled [] tab r h done u e = go (done u e)
     where
       go : Has n u [] ⊎ Right u (look n tab u) → Right u (look n tab u)
@@ -115,11 +115,11 @@ module _ {K : Type 0} (F : Field K) (n : ℕ) (before : Mono n → Mono n → Bo
       go true = lists.get_d_past D _ zer j q
       go false = lists.get_d_past D _ zer j q
 
-  fill_past : (ts : List (Mono n)) (tab : Table K n) → All (λ e. Past e.1) tab → All (λ e. Past e.1) (filled_by ts tab)
+  fill_past : (ts : List (Mono n)) (tab : Table K n) → AllByRecursion (λ e. Past e.1) tab → AllByRecursion (λ e. Past e.1) (filled_by ts tab)
   fill_past [] tab h = h
   fill_past (t ∷ ts) tab h = fill_past ts ((t, column_of tab t) ∷ tab) (column_past tab t, h)
 
-  look_past : (tab : Table K n) → All (λ e. Past e.1) tab → (u : Mono n) → Past (look n tab u)
+  look_past : (tab : Table K n) → AllByRecursion (λ e. Past e.1) tab → (u : Mono n) → Past (look n tab u)
   look_past [] h u j q = refl
   look_past (e ∷ tab) h u j q = go (equal n e.0 u) (look_past tab h.1 u j q)
     where
@@ -187,7 +187,7 @@ module _ {K : Type 0} (F : Field K) (n : ℕ) (before : Mono n → Mono n → Bo
           (final-form (X k (s i)) small (subst (λ (m : Mono n). before (X k (s i)) m ≡ true) up (O.raised k low-is.0 (s i) u small (subst (Small n) (sym up) (edge_small t et)) z)))
           same-u)
 
-  second_all : (ts : List (Mono n)) (tab : Table K n) → Rising n before ts → All Edge ts → Done ts tab → (u : Mono n) → Has n u ts → is_lead u ≡ false → Second (filled_by ts tab) u
+  second_all : (ts : List (Mono n)) (tab : Table K n) → Rising n before ts → AllByRecursion Edge ts → Done ts tab → (u : Mono n) → Has n u ts → is_lead u ≡ false → Second (filled_by ts tab) u
   second_all [] tab r h done u y no_lead = absurd (false≢true y)
   second_all (t ∷ ts) tab r h done u y no_lead = go (equal n u t) refl y (second_all ts ((t, column_of tab t) ∷ tab) r.1 h.1 (next t ts tab r h.0 done) u)
     where

@@ -3,7 +3,7 @@
 use Rattle.std.proofs.Common.{◌≡◌, ℕ, zero, suc, ◌<◌, ◌≤◌, Bool, true, false, cond, ◌&&◌, leb, ◌⊎◌, List, [], ◌∷◌, length, get_or, sym, refl, ap, ◌∙◌, subst, ap₂, inl, inr, arith}
 use mathlib.Core.Bool.{false≢true}
 use native.Mathlib.Decide.{ℕ_discrete}
-use Rattle.std.specs.List.{AllByRecursion as All}
+use Rattle.std.specs.List.{AllByRecursion}
 use Rattle.std.proofs.ByRecursion.{All-weaker}
 use Rattle.std.proofs.lemmas.List.{length-map, get_or-map}
 use Rattle.std.proofs.lemmas.Bool.{cases_Bool, leb-true, le-leb, and_parts}
@@ -150,7 +150,7 @@ module _ {K : Type 0} (F : Field K) (n : ℕ) (before : Mono n → Mono n → Bo
     pub leading : (p : ℕ) → p < length L → lead_of p ≡ t → (j : ℕ) → j < D → entry c j ≡ neg (coefficient (arith_of F) n (rest_at n L p) (s j))
 
   -- a coefficient of a polynomial before b
-  coef_below : (b : Mono n) (p : Poly K n) (m : Mono n) → All (λ x. before x.1 b ≡ true) p → (coefficient (arith_of F) n p m ≡ zer) ⊎ (before m b ≡ true)
+  coef_below : (b : Mono n) (p : Poly K n) (m : Mono n) → AllByRecursion (λ x. before x.1 b ≡ true) p → (coefficient (arith_of F) n p m ≡ zer) ⊎ (before m b ≡ true)
   coef_below b [] m h = inl refl
   coef_below b (x ∷ p) m h = go (equal n m x.1) refl (coef_below b p m h.1)
     where
@@ -203,7 +203,7 @@ module _ {K : Type 0} (F : Field K) (n : ℕ) (before : Mono n → Mono n → Bo
         go j q (inl z) = inl z
         go j q (inr z) = inr (O.chain (s j) u t (s_small j q) (edge_small u e) (edge_small t et) z l)
 
-  coef_out : (p : Poly K n) (m : Mono n) → any (equal n m) S ≡ false → All (λ x. any (equal n x.1) S ≡ true) p → coeff F n p m ≡ zer
+  coef_out : (p : Poly K n) (m : Mono n) → any (equal n m) S ≡ false → AllByRecursion (λ x. any (equal n x.1) S ≡ true) p → coeff F n p m ≡ zer
   coef_out [] m h e = refl
   coef_out (x ∷ p) m h e = go (equal n m x.1) refl (coef_out p m h e.1)
     where
@@ -212,7 +212,7 @@ module _ {K : Type 0} (F : Field K) (n : ℕ) (before : Mono n → Mono n → Bo
       go false z ih = ap₂ (λ a b. a ⊕ b) (field.mul_zero F x.0) ih ∙ add_zero zer
 
   -- a polynomial of staircase monomials by its coefficients
-  rest_is : (p : Poly K n) → All (λ x. any (equal n x.1) S ≡ true) p → (c : ℕ → K) → ((j : ℕ) → j < D → c j ≡ coeff F n p (s j)) → ◌≈◌ F n p (combination D s c)
+  rest_is : (p : Poly K n) → AllByRecursion (λ x. any (equal n x.1) S ≡ true) p → (c : ℕ → K) → ((j : ℕ) → j < D → c j ≡ coeff F n p (s j)) → ◌≈◌ F n p (combination D s c)
   rest_is p h c e m = sym (polys.ev_combination F s D c _ ∙ go (cases_Bool (any (equal n m) S)))
     where
       inside : (r : ℕ) → r < D → s r ≡ m → (j : ℕ) → j < D → cond (equal n m (s j)) one zer ≡ basis F j r
@@ -260,7 +260,7 @@ module _ {K : Type 0} (F : Field K) (n : ℕ) (before : Mono n → Mono n → Bo
       λ j q. ap (λ (c : List K). entry c j) rule ∙ lists.get_or_build D _ zer j q ∙ ap (λ (p : Poly K n). neg (coefficient (arith_of F) n p (s j))) x.3 in
       record {
         good = columns.good_member F n L D s (entry (column_of tab t)) t (ideals.generator_member F n L x.0 x.1 ((one, t) ∷ combination D s (λ j. neg (entry (column_of tab t) j))) (poly_is x.0 x.1 t x.2 (entry (column_of tab t)) val));
-        below = λ j q. low-coef j q (val j q) (coef_below t (rest_at n L x.0) (s j) (subst (λ (b : Mono n). All (λ y. before y.1 b ≡ true) (rest_at n L x.0)) x.2 (Q.falls x.0 x.1)));
+        below = λ j q. low-coef j q (val j q) (coef_below t (rest_at n L x.0) (s j) (subst (λ (b : Mono n). AllByRecursion (λ y. before y.1 b ≡ true) (rest_at n L x.0)) x.2 (Q.falls x.0 x.1)));
         leading = λ p l z j q.
             let same : x.0 ≡ p = Q.apart x.0 p x.1 l (subst (λ (m : Mono n). divides n (lead_of x.0) m ≡ true) (x.2 ∙ sym z) (monos.divides_self n (lead_of x.0))) in
             val j q ∙ ap (λ (p : ℕ). neg (coefficient (arith_of F) n (rest_at n L p) (s j))) same;

@@ -1,7 +1,7 @@
 -- Increasing lists: what sorting and filtering keep, that a sorted list is rising, and what a box holds.
 use Rattle.std.proofs.Common.{◌≡◌, ℕ, zero, suc, ◌<◌, Bool, true, false, cond, ◌⊎◌, List, [], ◌∷◌, map, length, get_or, filter, sym, refl, ap, ◌∙◌, subst, ap₂, inl, inr, arith}
 use mathlib.Core.Bool.{false≢true}
-use Rattle.std.specs.List.{AllByRecursion as All}
+use Rattle.std.specs.List.{AllByRecursion}
 use Rattle.std.proofs.ByRecursion.{All-get_or, All-weaker}
 use Rattle.std.proofs.lemmas.List.{length-map, get_or-map}
 use Rattle.std.proofs.lemmas.Bool.{cases_Bool}
@@ -19,7 +19,7 @@ rising_at n before (a ∷ l) r zero (suc j) p q = All-get_or (λ b. before a b �
 rising_at n before (a ∷ l) r (suc i) (suc j) p q = rising_at n before l r.1 i j (omega arith) (omega arith)
 
 module _ (n : ℕ) where
-  pub has_all : (P : Mono n → Type 0) (l : List (Mono n)) → All P l → (t : Mono n) → Has n t l → P t
+  pub has_all : (P : Mono n → Type 0) (l : List (Mono n)) → AllByRecursion P l → (t : Mono n) → Has n t l → P t
   has_all P l h t q = let x = has_among n t l q in subst P x.2 (All-get_or P l x.0 (one n) x.1 h)
 
   pub has_map : (g : Mono n → Mono n) (l : List (Mono n)) (i : ℕ) → i < length l → Has n (g (get_or l i (one n))) (map g l)
@@ -76,21 +76,21 @@ module _ (n : ℕ) where
     sorted_has [] t = refl
     sorted_has (a ∷ l) t = insert_has a (sorted n before l) t ∙ ap (λ x. cond (equal n t a) true x) (sorted_has l t)
 
-    all_insert : (P : Mono n → Type 0) (m : Mono n) (l : List (Mono n)) → P m → All P l → All P (insert n before m l)
+    all_insert : (P : Mono n → Type 0) (m : Mono n) (l : List (Mono n)) → P m → AllByRecursion P l → AllByRecursion P (insert n before m l)
     all_insert P m [] x h = (x, tt)
     all_insert P m (a ∷ l) x h = go (before m a) (equal n m a) (all_insert P m l x h.1)
       where
-        go : (b c : Bool) → All P (insert n before m l) → All P (cond b (m ∷ a ∷ l) (cond c (a ∷ l) (a ∷ insert n before m l)))
+        go : (b c : Bool) → AllByRecursion P (insert n before m l) → AllByRecursion P (cond b (m ∷ a ∷ l) (cond c (a ∷ l) (a ∷ insert n before m l)))
         go true c ih = (x, h)
         go false true ih = h
         go false false ih = (h.0, ih)
 
-    pub all_sorted : (P : Mono n → Type 0) (l : List (Mono n)) → All P l → All P (sorted n before l)
+    pub all_sorted : (P : Mono n → Type 0) (l : List (Mono n)) → AllByRecursion P l → AllByRecursion P (sorted n before l)
     all_sorted P [] h = tt
     all_sorted P (a ∷ l) h = all_insert P a (sorted n before l) h.0 (all_sorted P l h.1)
 
     module _ (O : Ordered n before) where
-      insert-rising : (m : Mono n) (l : List (Mono n)) → Small n m → All (Small n) l → Rising n before l → Rising n before (insert n before m l)
+      insert-rising : (m : Mono n) (l : List (Mono n)) → Small n m → AllByRecursion (Small n) l → Rising n before l → Rising n before (insert n before m l)
       insert-rising m [] x h r = (tt, tt)
       insert-rising m (a ∷ l) x h r = go (before m a) refl (equal n m a) refl (insert-rising m l x h.1 r.1)
         where
@@ -99,7 +99,7 @@ module _ (n : ℕ) where
           go false p true q ih = r
           go false p false q ih = (all_insert (λ b. before a b ≡ true) m l (O.either m a x h.0 p q) r.0, ih)
 
-      pub sorted-rising : (l : List (Mono n)) → All (Small n) l → Rising n before (sorted n before l)
+      pub sorted-rising : (l : List (Mono n)) → AllByRecursion (Small n) l → Rising n before (sorted n before l)
       sorted-rising [] h = tt
       sorted-rising (a ∷ l) h = insert-rising a (sorted n before l) h.0 (all_sorted (Small n) l h.1) (sorted-rising l h.1)
 
@@ -131,7 +131,7 @@ module _ (n : ℕ) where
           go (inr y) = y
 
       -- two rising lists with the same members are equal
-      pub rising-equal : (l m : List (Mono n)) → All (Small n) l → All (Small n) m → Rising n before l → Rising n before m → ((t : Mono n) → Has n t l → Has n t m) → ((t : Mono n) → Has n t m → Has n t l) → l ≡ m
+      pub rising-equal : (l m : List (Mono n)) → AllByRecursion (Small n) l → AllByRecursion (Small n) m → Rising n before l → Rising n before m → ((t : Mono n) → Has n t l → Has n t m) → ((t : Mono n) → Has n t m → Has n t l) → l ≡ m
       rising-equal [] [] sl sm rl rm there back = refl
       rising-equal [] (b ∷ m) sl sm rl rm there back = absurd (false≢true (back b (here b m)))
       rising-equal (a ∷ l) [] sl sm rl rm there back = absurd (false≢true (there a (here a l)))

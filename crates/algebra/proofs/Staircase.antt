@@ -3,7 +3,7 @@
 use Rattle.std.proofs.Common.{◌≡◌, ℕ, suc, ◌<◌, ◌≤◌, Bool, true, false, cond, ◌⊎◌, ◌↔◌, List, [], ◌∷◌, length, get_or, filter, sym, refl, ap, ◌∙◌, subst, inl, inr, arith}
 use mathlib.Core.Bool.{false≢true}
 use native.Mathlib.Decide.{ℕ_discrete, dec_lt}
-use Rattle.std.specs.List.{AllByRecursion as All}
+use Rattle.std.specs.List.{AllByRecursion}
 use Rattle.std.proofs.ByRecursion.{All-get_or, All-from_get_or, All-weaker}
 use Rattle.std.proofs.lemmas.Bool.{not-true, not-false, cases_Bool}
 use Rattle.order.specs.Monomials.{largest}
@@ -16,7 +16,7 @@ use Rattle.algebra.proofs.Monomials as monos
 use Rattle.algebra.proofs.Monomials.{Has}
 use Rattle.algebra.proofs.Sorting as sorting
 
-all_true : {A : Type 0} (l : List A) → All (λ a. Unit {0}) l
+all_true : {A : Type 0} (l : List A) → AllByRecursion (λ a. Unit {0}) l
 all_true [] = tt
 all_true (a ∷ l) = (tt, all_true l)
 
@@ -87,7 +87,7 @@ module _ (n : ℕ) (leads : List (Mono n)) where
       abbrev S : List (Mono n)
       S = staircase n before leads
 
-      kept : All (λ m. Unit {0} × (free n leads m ≡ true)) (filter (free n leads) (box n (bound n leads)))
+      kept : AllByRecursion (λ m. Unit {0} × (free n leads m ≡ true)) (filter (free n leads) (box n (bound n leads)))
       kept = lists.all_kept (λ m. Unit {0}) (free n leads) (box n (bound n leads)) (all_true _)
 
       pub stairs_to : (m : Mono n) → Has n m S → free n leads m ≡ true
@@ -130,7 +130,7 @@ module _ (n : ℕ) (leads : List (Mono n)) where
             is_free : (t : Mono n) → Among n t R → free n leads t ≡ true
             is_free t x = free_yes t ((Q.exactly t).0 x)
 
-            small : All (Small n) R
+            small : AllByRecursion (Small n) R
             small = All-from_get_or (Small n) R (one n) (λ i l. free_small _ (is_free _ (i, l, refl)))
 
         pub staircase-exactly : (R : List (Mono n)) → IsStaircase n before leads R ↔ (R ≡ S)

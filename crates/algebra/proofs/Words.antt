@@ -1,7 +1,7 @@
 -- A map that keeps the operations carries polynomials, tables and matrices along; taking an element's word is one.
 use Rattle.std.proofs.Common.{◌≡◌, ℕ, zero, suc, Bool, true, false, cond, T, List, [], ◌∷◌, map, length, get_or, sym, refl, ap, ◌∙◌, ap₂}
 use mathlib.Core.Path.{fun_ext}
-use Rattle.std.specs.List.{AllByRecursion as All}
+use Rattle.std.specs.List.{AllByRecursion}
 use Rattle.field.specs.Meaning.{FieldMeaning, FieldLaws}
 use Rattle.algebra.specs.Elements.{Elem, field_of, el}
 use Rattle.algebra.specs.Lists.{any, build}
@@ -140,7 +140,7 @@ module _ (m : FieldMeaning) (laws : FieldLaws m) (n : ℕ) where
   abbrev to_words : Poly (Elem m) n → Poly ℕ n
   to_words = terms (arith_of (field_of m laws)) (words m) word is_hom n
 
-  terms_back : (p : Poly ℕ n) → All (λ t. T (m.elem t.0)) p → to_words (map (λ (t : ℕ × Mono n). (el m laws t.0, t.1)) p) ≡ p
+  terms_back : (p : Poly ℕ n) → AllByRecursion (λ t. T (m.elem t.0)) p → to_words (map (λ (t : ℕ × Mono n). (el m laws t.0, t.1)) p) ≡ p
   terms_back [] h = refl
   terms_back (t ∷ p) h = ap₂ (λ (x : ℕ) (y : Poly ℕ n). (x, t.1) ∷ y) (el_word m laws t.0 h.0) (terms_back p h.1)
 

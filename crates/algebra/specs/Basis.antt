@@ -13,7 +13,7 @@
 --   NormalFormsHold               those of polynomials that passed are such
 -- Used by: the multiplication matrices, and the questions put to the polynomials of a job.
 use Rattle.std.specs.Prelude.{◌≡◌, ℕ, ◌<◌, ◌≤◌, Bool, true, ◌≢◌, List, [], ◌∷◌, map, length, slice_index_or}
-use Rattle.std.specs.List.{AllByRecursion as All}
+use Rattle.std.specs.List.{AllByRecursion}
 use Rattle.field.specs.Meaning.{FieldMeaning, FieldLaws}
 use Rattle.algebra.specs.Field.{Field}
 use Rattle.algebra.specs.Vector.{basis, apply, Least}
@@ -58,11 +58,11 @@ module _ {K : Type 0} (O : Arithmetic K) (n : ℕ) (before : Mono n → Mono n �
 module _ {K : Type 0} (F : Field K) (n : ℕ) (before : Mono n → Mono n → Bool) (L : List (Poly K n)) where
   pub record Passed : Type 0 where
     pub monic : (p : ℕ) → p < length L → slice_index_or L p [] ≡ (F.one, lead_at n L p) ∷ rest_at n L p
-    pub falls : (p : ℕ) → p < length L → All (λ t. before t.1 (lead_at n L p) ≡ true) (rest_at n L p)
+    pub falls : (p : ℕ) → p < length L → AllByRecursion (λ t. before t.1 (lead_at n L p) ≡ true) (rest_at n L p)
     pub not_one : (p : ℕ) → p < length L → lead_at n L p ≢ one n
     pub bounded : Bounded n (leads n L)
     pub apart : (p q : ℕ) → p < length L → q < length L → divides n (lead_at n L p) (lead_at n L q) ≡ true → p ≡ q
-    pub inside : (p : ℕ) → p < length L → All (λ t. Among n t.1 (stairs n before L)) (rest_at n L p)
+    pub inside : (p : ℕ) → p < length L → AllByRecursion (λ t. Among n t.1 (stairs n before L)) (rest_at n L p)
 
   abbrev pub form_at : Mono n → ℕ → K
   form_at t j = slice_index_or (normal_form (arith_of F) n before L t) j F.zer

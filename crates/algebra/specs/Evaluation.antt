@@ -6,7 +6,7 @@
 --   EvaluationHolds        commuting linear maps have such an evaluation, over every lawful field
 -- Used by: the matrices of an ideal, and the companion map of a shaped basis.
 use Rattle.std.specs.Prelude.{◌≡◌, ℕ, zero, suc, ◌<◌, List, ◌++◌}
-use Rattle.std.specs.List.{AllByRecursion as All}
+use Rattle.std.specs.List.{AllByRecursion}
 use Rattle.field.specs.Meaning.{FieldMeaning, FieldLaws}
 use Rattle.algebra.specs.Field.{Field}
 use Rattle.algebra.specs.Vector.{LinearMap, krylov}
@@ -32,7 +32,7 @@ module _ {K : Type 0} (F : Field K) where
       pub sums : (p q : Poly K n) (j : ℕ) → evaluate (p ++ q) j ≡ F.◌⊕◌ (evaluate p j) (evaluate q j)
       pub scales : (c : K) (p : Poly K n) (j : ℕ) → evaluate (term_mul F n c (one n) p) j ≡ F.◌⊗◌ c (evaluate p j)
       pub shifts : (k : ℕ) → k < n → (p : Poly K n) → evaluate (term_mul F n F.one (var n k) p) ≡ T k (evaluate p)
-      pub kills : (L : List (Poly K n)) → All (λ l. evaluate l ≡ (λ j. F.zer)) L → (f : Poly K n) → Member F n L f → evaluate f ≡ (λ j. F.zer)
+      pub kills : (L : List (Poly K n)) → AllByRecursion (λ l. evaluate l ≡ (λ j. F.zer)) L → (f : Poly K n) → Member F n L f → evaluate f ≡ (λ j. F.zer)
 
 abbrev pub EvaluationHolds : Type 0
 EvaluationHolds = (m : FieldMeaning) (laws : FieldLaws m) (n D : ℕ) (T : ℕ → (ℕ → Elem m) → ℕ → Elem m) → ((k : ℕ) → LinearMap (field_of m laws) D (T k)) → Commute n T → (e : ℕ → Elem m) → Evaluates (field_of m laws) n T e

@@ -3,7 +3,7 @@
 --   build n f        f 0, .., f (n - 1)
 --   joined n f       the lists f 0, .., f (n - 1), one after the other
 --   least n p        the least place below n that passes p, or n
--- Used by: staircase, border and normal forms. What holds of each member is All, and a filtered list is kept-by, both of the standard library.
+-- Used by: staircase, border and normal forms. What holds of each member is AllByRecursion, and a filtered list is filter, both of the standard library.
 use Rattle.std.specs.Prelude.{ℕ, zero, suc, Bool, true, false, cond, List, [], ◌∷◌, ◌++◌}
 
 abbrev pub any : {A : Type 0} → (A → Bool) → List A → Bool

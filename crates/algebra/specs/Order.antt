@@ -4,7 +4,7 @@
 --   Rising n before l    each member of l stands before all that follow it
 -- Used by: the staircase, the border and the order in which normal forms are made.
 use Rattle.std.specs.Prelude.{◌≡◌, ℕ, ◌<◌, ◌≤◌, Bool, true, false, List, [], ◌∷◌, ◌≢◌}
-use Rattle.std.specs.List.{AllByRecursion as All}
+use Rattle.std.specs.List.{AllByRecursion}
 use Rattle.order.specs.Monomials.{largest}
 use Rattle.algebra.specs.Monomial.{Mono, times, var, equal, exponent}
 
@@ -20,4 +20,4 @@ pub record Ordered (n : ℕ) (before : Mono n → Mono n → Bool) : Type 0 wher
 
 abbrev pub Rising : (n : ℕ) → (Mono n → Mono n → Bool) → List (Mono n) → Type 0
 Rising n before [] = Unit {0}
-Rising n before (a ∷ l) = All (λ b. before a b ≡ true) l × Rising n before l
+Rising n before (a ∷ l) = AllByRecursion (λ b. before a b ≡ true) l × Rising n before l

@@ -10,7 +10,7 @@
 --   StaircaseHolds                  the computed staircase is one, and there is no other
 -- Used by: the border and the normal forms.
 use Rattle.std.specs.Prelude.{◌≡◌, ℕ, zero, suc, ◌<◌, Bool, true, cond, not, ◌↔◌, List, [], ◌∷◌, map, length, filter, ◌≢◌, slice_index_or}
-use Rattle.std.specs.List.{AllByRecursion as All}
+use Rattle.std.specs.List.{AllByRecursion}
 use Rattle.algebra.specs.Lists.{any, joined}
 use Rattle.algebra.specs.Monomial.{Mono, one, equal, power, exponent, divides, pure, Among}
 use Rattle.algebra.specs.Order.{Small, Ordered, Rising}
@@ -28,7 +28,7 @@ module _ (n : ℕ) where
   bound (l ∷ leads) k = cond (pure n k l) (exponent n l k) (bound leads k)
 
   pub record Bounded (leads : List (Mono n)) : Type 0 where
-    pub small : All (Small n) leads
+    pub small : AllByRecursion (Small n) leads
     pub pures : (k : ℕ) → k < n → (p : ℕ) × (p < length leads) × (e : ℕ) × (slice_index_or leads p (one n) ≡ power n k e)
 
   module _ (before : Mono n → Mono n → Bool) where

@@ -6,7 +6,7 @@
 --   WordsHold                     so they are for every lawful field
 -- Used by: the calls that work over words.
 use Rattle.std.specs.Prelude.{◌≡◌, ℕ, Bool, T, List, map}
-use Rattle.std.specs.List.{AllByRecursion as All}
+use Rattle.std.specs.List.{AllByRecursion}
 use Rattle.field.specs.Meaning.{FieldMeaning, FieldLaws}
 use Rattle.algebra.specs.Elements.{Elem, field_of, el}
 use Rattle.algebra.specs.Monomial.{Mono}
@@ -19,7 +19,7 @@ abbrev pub words : FieldMeaning → Arithmetic ℕ
 words m = record { zer = m.zero; one = m.one; add = m.add; mul = m.mul; neg = m.neg }
 
 abbrev pub ElementTerms : FieldMeaning → (n : ℕ) → List (Poly ℕ n) → Type 0
-ElementTerms m n W = All (All (λ t. T (m.elem t.0))) W
+ElementTerms m n W = AllByRecursion (AllByRecursion (λ t. T (m.elem t.0))) W
 
 module _ (m : FieldMeaning) (laws : FieldLaws m) (n : ℕ) where
   abbrev pub elements : List (Poly ℕ n) → List (Poly (Elem m) n)

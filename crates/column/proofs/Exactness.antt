@@ -2,7 +2,7 @@
 -- Used by: read_line, the laws that functions name, and the text layers above.
 use Rattle.std.proofs.Common.{◌≡◌, ℕ, ◌+◌, ◌*◌, Bool, true, false, cond, List, ◌∷◌, ◌++◌, length, take, drop, Some, Ok, Err, Result, sym, refl, ap, ◌∙◌, subst, arith}
 use Rattle.std.specs.Result as results
-use Rattle.std.specs.List.{AllByRecursion as All}
+use Rattle.std.specs.List.{AllByRecursion}
 use Rattle.std.proofs.lemmas.List.{drop-drop, drop_more, take_at}
 use Rattle.std.proofs.lemmas.Bool.{both_ways, leb-true}
 use Rattle.column.specs.Column.{Word, column, reading}
@@ -33,7 +33,7 @@ module _ (c : ℕ) (bs : List ℕ) where
         cols.2 ∙ ap (λ xs. columns vs ++ xs) rest ∙ sym (line_then vs (drop (line_length c) bs)) ∙ ap (λ k. line vs ++ drop k bs) n,
       )
 
-  numbers_from_begins : (ws : List ℕ) → length ws ≡ c → All Word ws → Begins bs (line ws) → numbers c bs ≡ true
+  numbers_from_begins : (ws : List ℕ) → length ws ≡ c → AllByRecursion Word ws → Begins bs (line ws) → numbers c bs ≡ true
   numbers_from_begins ws n h b = ap (λ k. numbers k bs) (sym n) ∙ ap (numbers (length ws)) b ∙ numbers_line ws (drop (length (line ws)) bs) h
 
   reads_by : (t u : Bool) → exact c bs ≡ t → numbers c bs ≡ u → ReadsLine c bs (reading_line c bs)
@@ -48,7 +48,7 @@ module _ (c : ℕ) (bs : List ℕ) where
 
 -- no other answer
 
-pub reading_from_begins : (ws bs : List ℕ) → All Word ws → Begins bs (line ws) → reading_line (length ws) bs ≡ Ok ws
+pub reading_from_begins : (ws bs : List ℕ) → AllByRecursion Word ws → Begins bs (line ws) → reading_line (length ws) bs ≡ Ok ws
 reading_from_begins ws bs h b = ap (reading_line (length ws)) b ∙ reading_line_line ws (drop (length (line ws)) bs) h
 
 module _ (c : ℕ) (bs : List ℕ) where
@@ -56,7 +56,7 @@ module _ (c : ℕ) (bs : List ℕ) where
   wrong_length_by false e no' = e
   wrong_length_by true e no' = absurd (no' (ends_from_exact c bs e))
 
-  no_number_by : (t : Bool) → numbers c bs ≡ t → exact c bs ≡ true → ((ws : List ℕ) → length ws ≡ c → All Word ws → Begins bs (line ws) → ⊥) → numbers c bs ≡ false
+  no_number_by : (t : Bool) → numbers c bs ≡ t → exact c bs ≡ true → ((ws : List ℕ) → length ws ≡ c → AllByRecursion Word ws → Begins bs (line ws) → ⊥) → numbers c bs ≡ false
   no_number_by false n e no' = n
   no_number_by true n e no' = let l = line_from_numbers c bs e n in absurd (no' (values c bs) l.0 l.1 l.2)
 
@@ -69,11 +69,11 @@ module _ (c : ℕ) (bs : List ℕ) where
 
 -- at a place of a text
 
-pub line_reads_back : (bytes rest ws : List ℕ) (at : ℕ) → All Word ws → drop at bytes ≡ line ws ++ rest → reading_line (length ws) (drop at bytes) ≡ Ok ws
+pub line_reads_back : (bytes rest ws : List ℕ) (at : ℕ) → AllByRecursion Word ws → drop at bytes ≡ line ws ++ rest → reading_line (length ws) (drop at bytes) ≡ Ok ws
 line_reads_back bytes rest ws at h e = ap (reading_line (length ws)) e ∙ reading_line_line ws rest h
 
 pub read_is_line : (bytes ws : List ℕ) (at c : ℕ) → reading_line c (drop at bytes) ≡ Ok ws
-    → (length ws ≡ c) × All Word ws × (drop at bytes ≡ line ws ++ drop (at + line_length c) bytes)
+    → (length ws ≡ c) × AllByRecursion Word ws × (drop at bytes ≡ line ws ++ drop (at + line_length c) bytes)
 read_is_line bytes ws at c e =
     let r : ReadsLine c (drop at bytes) (Ok ws) = subst (ReadsLine c (drop at bytes)) e (reads_line_reading c (drop at bytes)) in
     let n : length (line ws) ≡ line_length c = line_length_is ws r.1 ∙ ap line_length r.0 in (
@@ -98,7 +98,7 @@ line_taken bytes old new at r e is =
 same_words : (vs ws : List ℕ) → ◌≡◌ {A = Result (List ℕ) LineFault} (Ok vs) (Ok ws) → vs ≡ ws
 same_words vs ws e = cc
 
-pub one_line : (bs vs ws : List ℕ) → All Word vs → All Word ws → Begins bs (line vs) → Begins bs (line ws) → vs ≡ ws
+pub one_line : (bs vs ws : List ℕ) → AllByRecursion Word vs → AllByRecursion Word ws → Begins bs (line vs) → Begins bs (line ws) → vs ≡ ws
 one_line bs vs ws h k b d =
     let n : 11 * length vs ≡ 11 * length ws =
     sym (before_newline_line vs (drop (length (line vs)) bs) h) ∙ ap before_newline (sym b ∙ d) ∙ before_newline_line ws (drop (length (line ws)) bs) k in
@@ -107,7 +107,7 @@ one_line bs vs ws h k b d =
 
 -- what was written
 
-pub written_line_reads : (out ws : List ℕ) (at : ℕ) → All Word ws → room out at (line ws) ≡ true → reading_line (length ws) (drop at (placed out at (line ws))) ≡ Ok ws
+pub written_line_reads : (out ws : List ℕ) (at : ℕ) → AllByRecursion Word ws → room out at (line ws) ≡ true → reading_line (length ws) (drop at (placed out at (line ws))) ≡ Ok ws
 written_line_reads out ws at h t =
     let fits = leb-true (at + length (line ws)) (length out) t in
     ap (λ b. reading_line (length ws) (drop at (cond b (put out at (line ws)) out))) t

@@ -1,7 +1,7 @@
 -- A column in the words of its form: eleven bytes, blanks and then a numeral.
 -- Used by: column_is_right_justified.
 use Rattle.std.proofs.Common.{◌≡◌, ℕ, ◌-◌, ◌≤◌, List, ◌++◌, length, get_or, replicate, decimal, sym, ap, ◌∙◌, inl, inr, arith, rules}
-use Rattle.std.specs.List.{AllByRecursion as All}
+use Rattle.std.specs.List.{AllByRecursion}
 use Rattle.std.proofs.lemmas.Fmt.{decimal_digit, decimal_nonempty, decimal-digits_value, digits_decimal, first_decimal, digits_value-decimal}
 use Rattle.std.proofs.lemmas.Str.Parse.{IsNumeralModel, numerals_by_fold}
 use Rattle.std.proofs.lemmas.Bool.{cases_eq}
@@ -9,7 +9,7 @@ use Rattle.column.specs.Column.{Word, column, shown_after, shown}
 use Rattle.column.specs.Laws.{Numeral, Justified}
 use Rattle.column.proofs.Columns.{column_length, column_from_digits}
 
-own : IsNumeralModel (All (λ d. (48 ≤ d) × (d ≤ 57))) (shown_after 0)
+own : IsNumeralModel (AllByRecursion (λ d. (48 ≤ d) × (d ≤ 57))) (shown_after 0)
 own = numerals_by_fold _ (search rules) shown_after (search rules)
 
 zero_alone : (w : ℕ) → Word w → get_or (decimal w) 0 0 ≡ 48 → length (decimal w) ≡ 1

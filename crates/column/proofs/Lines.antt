@@ -1,7 +1,7 @@
 -- A line and its words, on lists: lengths, the first byte 10, and reading back and forth.
 -- Used by: write_line, the laws that functions name, and the text layers above.
 use Rattle.std.proofs.Common.{◌≡◌, ℕ, zero, suc, ◌+◌, ◌-◌, ◌*◌, ◌%◌, ◌≤◌, true, false, List, [], ◌∷◌, ◌++◌, length, get_or, take, drop, set, replicate, is_some, Some, None, Ok, decimal, Option, unwrap_or, sym, refl, ap, ◌∙◌, arith, length-append, take-append-drop, w32, Fits}
-use Rattle.std.specs.List.{AllByRecursion as All}
+use Rattle.std.specs.List.{AllByRecursion}
 use Rattle.std.proofs.lemmas.Fmt.{decimal_by_steps}
 use Rattle.std.proofs.ByRecursion.{All-from_get_or, All-append, All-push}
 use Rattle.std.proofs.lemmas.List.{append_assoc, drop_at, drop-drop, take_at}
@@ -15,15 +15,15 @@ use Rattle.column.proofs.Places.{put_put, put_byte}
 use Rattle.column.proofs.Questions.{reading_words}
 
 -- the numbers that a slice of words holds are words
-pub words_from_fits : (ws : List ℕ) → ((i : ℕ) → Fits w32 (get_or ws i 0)) → All Word ws
+pub words_from_fits : (ws : List ℕ) → ((i : ℕ) → Fits w32 (get_or ws i 0)) → AllByRecursion Word ws
 words_from_fits ws h = All-from_get_or Word ws 0 (λ i _. let k = h i in omega arith)
 
-pub columns_length : (ws : List ℕ) → All Word ws → length (columns ws) ≡ 11 * length ws
+pub columns_length : (ws : List ℕ) → AllByRecursion Word ws → length (columns ws) ≡ 11 * length ws
 unfolding columns
 columns_length [] h = refl
 columns_length (w ∷ ws) (h, hs) = length-append (column w) (columns ws) ∙ omega (arith, column_length w h, columns_length ws hs)
 
-pub line_length_is : (ws : List ℕ) → All Word ws → length (line ws) ≡ line_length (length ws)
+pub line_length_is : (ws : List ℕ) → AllByRecursion Word ws → length (line ws) ≡ line_length (length ws)
 unfolding line
 line_length_is ws h = length-append (columns ws) (10 ∷ []) ∙ ap (λ n. n + 1) (columns_length ws h)
 
@@ -33,33 +33,33 @@ line_then ws rest = append_assoc (columns ws) (10 ∷ []) rest
 
 -- no byte of a column is 10, so a line ends at its first one
 
-digits_no_newline : (w : ℕ) → Word w → All Other (decimal w)
+digits_no_newline : (w : ℕ) → Word w → AllByRecursion Other (decimal w)
 digits_no_newline w h =
-    decimal_by_steps (λ _ ds. All Other ds)
+    decimal_by_steps (λ _ ds. AllByRecursion Other ds)
     (λ n _. ((λ e. omega arith), tt))
     (λ n ds _ ih. All-push Other ds (48 + n % 10) ih (λ e. omega arith))
     w (omega arith)
 
-blanks_no_newline : (k : ℕ) → All Other (replicate k 32)
+blanks_no_newline : (k : ℕ) → AllByRecursion Other (replicate k 32)
 blanks_no_newline zero = tt
 blanks_no_newline (suc k) = ((λ e. omega arith), blanks_no_newline k)
 
-column_no_newline : (w : ℕ) → Word w → All Other (column w)
+column_no_newline : (w : ℕ) → Word w → AllByRecursion Other (column w)
 unfolding column
 column_no_newline w h = All-append Other (replicate (11 - length (decimal w)) 32) (decimal w) (blanks_no_newline (11 - length (decimal w))) (digits_no_newline w h)
 
-columns_no_newline : (ws : List ℕ) → All Word ws → All Other (columns ws)
+columns_no_newline : (ws : List ℕ) → AllByRecursion Word ws → AllByRecursion Other (columns ws)
 unfolding columns
 columns_no_newline [] h = tt
 columns_no_newline (w ∷ ws) (h, hs) = All-append Other (column w) (columns ws) (column_no_newline w h) (columns_no_newline ws hs)
 
-pub before_newline_line : (ws rest : List ℕ) → All Word ws → before_newline (line ws ++ rest) ≡ 11 * length ws
+pub before_newline_line : (ws rest : List ℕ) → AllByRecursion Word ws → before_newline (line ws ++ rest) ≡ 11 * length ws
 before_newline_line ws rest h =
     ap before_newline (line_then ws rest)
     ∙ before_newline_past (columns ws) (10 ∷ rest) (columns_no_newline ws h)
     ∙ omega (arith, before_newline_here rest, columns_length ws h)
 
-pub exact_line : (ws rest : List ℕ) → All Word ws → exact (length ws) (line ws ++ rest) ≡ true
+pub exact_line : (ws rest : List ℕ) → AllByRecursion Word ws → exact (length ws) (line ws ++ rest) ≡ true
 unfolding exact
 exact_line ws rest h =
     let l : length (line ws ++ rest) ≡ line_length (length ws) + length rest =
@@ -79,24 +79,24 @@ module _ (w : ℕ) (ws rest : List ℕ) (h : Word w) where
   other_columns : drop 11 (columns (w ∷ ws) ++ rest) ≡ columns ws ++ rest
   other_columns = ap (drop 11) split ∙ drop_at (column w) (columns ws ++ rest) 11 (column_length w h)
 
-numbers_columns : (ws rest : List ℕ) → All Word ws → numbers (length ws) (columns ws ++ rest) ≡ true
+numbers_columns : (ws rest : List ℕ) → AllByRecursion Word ws → numbers (length ws) (columns ws ++ rest) ≡ true
 unfolding numbers
 numbers_columns [] rest h = refl
 numbers_columns (w ∷ ws) rest (h, hs) =
     and_from _ _ (ap is_some (first_column w ws rest h)) (ap (numbers (length ws)) (other_columns w ws rest h) ∙ numbers_columns ws rest hs)
 
-values_columns : (ws rest : List ℕ) → All Word ws → values (length ws) (columns ws ++ rest) ≡ ws
+values_columns : (ws rest : List ℕ) → AllByRecursion Word ws → values (length ws) (columns ws ++ rest) ≡ ws
 unfolding values
 values_columns [] rest h = refl
 values_columns (w ∷ ws) rest (h, hs) =
     ap (λ o. unwrap_or o 0 ∷ values (length ws) (drop 11 (columns (w ∷ ws) ++ rest))) (first_column w ws rest h)
     ∙ ap (λ vs. w ∷ vs) (ap (values (length ws)) (other_columns w ws rest h) ∙ values_columns ws rest hs)
 
-pub numbers_line : (ws rest : List ℕ) → All Word ws → numbers (length ws) (line ws ++ rest) ≡ true
+pub numbers_line : (ws rest : List ℕ) → AllByRecursion Word ws → numbers (length ws) (line ws ++ rest) ≡ true
 numbers_line ws rest h = ap (numbers (length ws)) (line_then ws rest) ∙ numbers_columns ws (10 ∷ rest) h
 
 -- a line reads as its words, whatever comes after it
-pub reading_line_line : (ws rest : List ℕ) → All Word ws → reading_line (length ws) (line ws ++ rest) ≡ Ok ws
+pub reading_line_line : (ws rest : List ℕ) → AllByRecursion Word ws → reading_line (length ws) (line ws ++ rest) ≡ Ok ws
 reading_line_line ws rest h =
     reading_words (length ws) (line ws ++ rest) (exact_line ws rest h) (numbers_line ws rest h)
     ∙ ap Ok (ap (values (length ws)) (line_then ws rest) ∙ values_columns ws (10 ∷ rest) h)
@@ -108,7 +108,7 @@ column_from_some bs (Some w) h t = h
 column_from_some bs None h t = absurd (both_ways false refl t)
 
 pub columns_from_numbers : (c : ℕ) (bs : List ℕ) → numbers c bs ≡ true
-    → (length (values c bs) ≡ c) × All Word (values c bs) × (bs ≡ columns (values c bs) ++ drop (11 * c) bs)
+    → (length (values c bs) ≡ c) × AllByRecursion Word (values c bs) × (bs ≡ columns (values c bs) ++ drop (11 * c) bs)
 unfolding numbers values columns
 columns_from_numbers zero bs t = (refl, tt, refl)
 columns_from_numbers (suc c) bs t =
@@ -128,7 +128,7 @@ columns_from_numbers (suc c) bs t =
     )
 
 -- writing: the columns, then the byte 10 after them, are the line
-pub put_line : (out cols ws : List ℕ) (at : ℕ) → All Word ws → at + line_length (length ws) ≤ length out → length cols ≡ length out
+pub put_line : (out cols ws : List ℕ) (at : ℕ) → AllByRecursion Word ws → at + line_length (length ws) ≤ length out → length cols ≡ length out
     → cols ≡ put out at (columns ws) → set cols (at + 11 * length ws) 10 ≡ put out at (line ws)
 unfolding line
 put_line out cols ws at h room n e =

@@ -1,7 +1,7 @@
 -- The first byte 10: how many bytes stand before it, and that this decides where a line ends.
 -- Used by: Lines, Exactness.
 use Rattle.std.proofs.Common.{◌≡◌, ℕ, zero, suc, ◌+◌, ◌*◌, ◌<◌, true, cond, not, eqb, ltb, List, [], ◌∷◌, ◌++◌, length, get_or, sym, refl, ap, ◌∙◌, inl, inr, zero-add, arith}
-use Rattle.std.specs.List.{AllByRecursion as All}
+use Rattle.std.specs.List.{AllByRecursion}
 use Rattle.std.proofs.lemmas.Bool.{cases_eq, eq-eqb, ne_eqb, eqb-true, ltb-true, lt-ltb, and_parts, and_from}
 use Rattle.column.specs.Line.{EndsAfter, before_newline, exact}
 
@@ -61,7 +61,7 @@ exact_from_ends c bs (h, e, f) =
 abbrev pub Other : ℕ → Type 0
 Other b = b ≡ 10 → ⊥
 
-pub before_newline_past : (xs ys : List ℕ) → All Other xs → before_newline (xs ++ ys) ≡ length xs + before_newline ys
+pub before_newline_past : (xs ys : List ℕ) → AllByRecursion Other xs → before_newline (xs ++ ys) ≡ length xs + before_newline ys
 before_newline_past [] ys h = sym (zero-add (before_newline ys))
 before_newline_past (x ∷ xs) ys (h, hs) =
     omega (arith, before_next x (xs ++ ys) h, before_newline_past xs ys hs)

@@ -14,14 +14,14 @@
 --   WrittenColumnReads       a column that was written reads back
 --   WrittenLineReads         a line that was written reads back
 use Rattle.std.specs.Prelude.{◌≡◌, ℕ, ◌+◌, ◌<◌, ◌≤◌, true, List, ◌++◌, length, take, drop, replicate, Some, Ok, Option, Result, slice_index}
-use Rattle.std.specs.List.{AllByRecursion as All}
+use Rattle.std.specs.List.{AllByRecursion}
 use Rattle.column.specs.Column.{Word, column, Reads, shown, reading}
 use Rattle.column.specs.Line.{line, line_length, Begins, ReadsLine, reading_line}
 use Rattle.column.specs.Place.{room, placed}
 use Rattle.column.specs.declared.line.LineFault.{LineFault}
 
 abbrev pub Numeral : List ℕ → ℕ → Type 0
-Numeral ds w = (0 < length ds) × All (λ d. (48 ≤ d) × (d ≤ 57)) ds × (slice_index ds 0 ≡ 48 → length ds ≡ 1) × (shown ds ≡ w)
+Numeral ds w = (0 < length ds) × AllByRecursion (λ d. (48 ≤ d) × (d ≤ 57)) ds × (slice_index ds 0 ≡ 48 → length ds ≡ 1) × (shown ds ≡ w)
 
 abbrev pub Justified : List ℕ → ℕ → Type 0
 Justified bs w = (length bs ≡ 11) × ((k : ℕ) × ((ds : List ℕ) × ((bs ≡ replicate k 32 ++ ds) × Numeral ds w)))
@@ -42,23 +42,23 @@ abbrev pub ColumnsDiffer : Type 0
 ColumnsDiffer = (v w : ℕ) → Word v → Word w → column v ≡ column w → v ≡ w
 
 abbrev pub LineOfLength : Type 0
-LineOfLength = (ws : List ℕ) → All Word ws → length (line ws) ≡ line_length (length ws)
+LineOfLength = (ws : List ℕ) → AllByRecursion Word ws → length (line ws) ≡ line_length (length ws)
 
 abbrev pub LineReadingExact : Type 0
 LineReadingExact = (c : ℕ) (bs : List ℕ) (r : Result (List ℕ) LineFault) → ReadsLine c bs (reading_line c bs) × (ReadsLine c bs r → r ≡ reading_line c bs)
 
 abbrev pub LineReadsBack : Type 0
-LineReadsBack = (bytes rest ws : List ℕ) (at : ℕ) → All Word ws → drop at bytes ≡ line ws ++ rest → reading_line (length ws) (drop at bytes) ≡ Ok ws
+LineReadsBack = (bytes rest ws : List ℕ) (at : ℕ) → AllByRecursion Word ws → drop at bytes ≡ line ws ++ rest → reading_line (length ws) (drop at bytes) ≡ Ok ws
 
 abbrev pub ReadIsLine : Type 0
 ReadIsLine = (bytes ws : List ℕ) (at c : ℕ) → reading_line c (drop at bytes) ≡ Ok ws
-    → (length ws ≡ c) × All Word ws × (drop at bytes ≡ line ws ++ drop (at + line_length c) bytes)
+    → (length ws ≡ c) × AllByRecursion Word ws × (drop at bytes ≡ line ws ++ drop (at + line_length c) bytes)
 
 abbrev pub OneLine : Type 0
-OneLine = (bs vs ws : List ℕ) → All Word vs → All Word ws → Begins bs (line vs) → Begins bs (line ws) → vs ≡ ws
+OneLine = (bs vs ws : List ℕ) → AllByRecursion Word vs → AllByRecursion Word ws → Begins bs (line vs) → Begins bs (line ws) → vs ≡ ws
 
 abbrev pub WrittenColumnReads : Type 0
 WrittenColumnReads = (out : List ℕ) (at w : ℕ) → Word w → room out at (column w) ≡ true → reading (take 11 (drop at (placed out at (column w)))) ≡ Some w
 
 abbrev pub WrittenLineReads : Type 0
-WrittenLineReads = (out ws : List ℕ) (at : ℕ) → All Word ws → room out at (line ws) ≡ true → reading_line (length ws) (drop at (placed out at (line ws))) ≡ Ok ws
+WrittenLineReads = (out ws : List ℕ) (at : ℕ) → AllByRecursion Word ws → room out at (line ws) ≡ true → reading_line (length ws) (drop at (placed out at (line ws))) ≡ Ok ws

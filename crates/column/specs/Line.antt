@@ -17,7 +17,7 @@
 --   fault_number f      the number of a refusal: 26 wrong length, 27 not a number
 -- Used by: read_line, write_line and the text layers above. Theorems: in Laws.
 use Rattle.std.specs.Prelude.{◌≡◌, ℕ, zero, suc, ◌+◌, ◌*◌, ◌<◌, Bool, true, cond, not, ◌&&◌, List, [], ◌∷◌, ◌++◌, length, take, drop, is_some, Ok, Err, Result, ◌==◌, ◌≢◌, nat_lt, slice_index}
-use Rattle.std.specs.List.{flat_map, prefix_len, AllByRecursion as All}
+use Rattle.std.specs.List.{flat_map, prefix_len, AllByRecursion}
 use Rattle.std.specs.Option.{unwrap_or}
 use Rattle.std.specs.Result as results
 use Rattle.column.specs.Column.{Word, column, reading}
@@ -40,9 +40,9 @@ abbrev pub EndsAfter : ℕ → List ℕ → Type 0
 EndsAfter c bs = (11 * c < length bs) × (slice_index bs (11 * c) ≡ 10) × ((k : ℕ) → k < 11 * c → slice_index bs k ≢ 10)
 
 abbrev pub ReadsLine : ℕ → List ℕ → Result (List ℕ) LineFault → Type 0
-ReadsLine c bs (Ok ws) = (length ws ≡ c) × All Word ws × Begins bs (line ws)
+ReadsLine c bs (Ok ws) = (length ws ≡ c) × AllByRecursion Word ws × Begins bs (line ws)
 ReadsLine c bs (Err WrongLength) = EndsAfter c bs → ⊥
-ReadsLine c bs (Err NotANumber) = EndsAfter c bs × ((ws : List ℕ) → length ws ≡ c → All Word ws → Begins bs (line ws) → ⊥)
+ReadsLine c bs (Err NotANumber) = EndsAfter c bs × ((ws : List ℕ) → length ws ≡ c → AllByRecursion Word ws → Begins bs (line ws) → ⊥)
 
 unfoldable pub before_newline : List ℕ → ℕ
 before_newline bs = prefix_len (λ b. not (b == 10)) bs

@@ -3,7 +3,7 @@ use Rattle.std.proofs.Common.{◌≡◌, ℕ, zero, suc, ◌<◌, ◌≤◌, Boo
 use mathlib.Core.Bool.{false≢true}
 use native.Mathlib.Decide.{ℕ_discrete, dec_lt}
 use lib.ListN.{length-map}
-use Rattle.std.specs.List.{AllByRecursion as All}
+use Rattle.std.specs.List.{AllByRecursion}
 use Rattle.std.proofs.ByRecursion.{All-map, All-get_or, All-weaker}
 use Rattle.std.proofs.lemmas.Bool.Decides.{nat_tests}
 use Rattle.field.specs.Meaning.{FieldMeaning, FieldLaws}
@@ -88,12 +88,12 @@ module _ (n : ℕ) (fits : n ≤ variables) where
     lead_is (p ∷ ps) zero = lead_nested p
     lead_is (p ∷ ps) (suc i) = lead_is ps i
 
-  module _ (m : FieldMeaning) (cmp : Comparison) (ps : List (List Term)) (fs : All (Fine m cmp n) ps) where
+  module _ (m : FieldMeaning) (cmp : Comparison) (ps : List (List Term)) (fs : AllByRecursion (Fine m cmp n) ps) where
     lead_within : (p : List Term) → Fine m cmp n p → Within n (lead_of p)
     lead_within [] f = within_one
     lead_within (t ∷ p) f = within n t.1 (f.ranges 0 f.some)
 
-    pub leads_within : All (Within n) (leads_of ps)
+    pub leads_within : AllByRecursion (Within n) (leads_of ps)
     leads_within = All-map (Within n) lead_of ps (All-weaker (Fine m cmp n) (λ p. Within n (lead_of p)) lead_within ps fs)
 
     at_within : (i : ℕ) → i < length ps → Within n (get_or (leads_of ps) i one)

@@ -1,7 +1,7 @@
 -- What can be decided: the parts that the questions of the calls are made of.
 use Rattle.std.proofs.Common.{◌≡◌, ℕ, suc, ◌<◌, Bool, true, false, T, ◌⊎◌, List, [], ◌∷◌, length, Ordering, Less, Equal, Greater, sym, refl, ap, ◌∙◌, subst, inl, inr, arith}
 use mathlib.Core.Bool.{false≢true}
-use Rattle.std.specs.List.{AllByRecursion as All}
+use Rattle.std.specs.List.{AllByRecursion}
 use Rattle.algebra.specs.Lists.{any}
 use Rattle.algebra.specs.Monomial.{Mono, equal, exponent, power, Among}
 use Rattle.algebra.proofs.Monomials as monos
@@ -69,7 +69,7 @@ pub nil_known : {A : Type 0} (l : List A) → Dec (l ≡ [])
 nil_known [] = yes refl
 nil_known (a ∷ l) = no (λ e. let z : suc (length l) ≡ 0 = ap length e in omega arith)
 
-pub all_known : {A : Type 0} (P : A → Type 0) → ((a : A) → Dec (P a)) → (l : List A) → Dec (All P l)
+pub all_known : {A : Type 0} (P : A → Type 0) → ((a : A) → Dec (P a)) → (l : List A) → Dec (AllByRecursion P l)
 all_known P d [] = yes tt
 all_known P d (a ∷ l) = both_known (d a) (all_known P d l)
 

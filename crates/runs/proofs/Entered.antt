@@ -2,7 +2,7 @@
 use Rattle.std.proofs.Common.{◌≡◌, ℕ, zero, suc, ◌<◌, ◌≤◌, true, T, ◌≢◌, List, [], ◌∷◌, map, length, get_or, Less, sym, ap, ◌∙◌, subst, arith}
 use native.Mathlib.Decide.{ℕ_discrete, dec_lt}
 use lib.ListN.{length-map}
-use Rattle.std.specs.List.{AllByRecursion as All}
+use Rattle.std.specs.List.{AllByRecursion}
 use Rattle.std.proofs.lemmas.List.{get_or-map}
 use Rattle.std.proofs.ByRecursion.{All-map, All-get_or, All-from_get_or}
 use Rattle.field.specs.Meaning.{FieldMeaning, FieldLaws}
@@ -43,7 +43,7 @@ fine m cmp j p y =
     let t = yes_rest (room_asks 0 j (length p)) (terms_asks m cmp j.n 0 p) y.1 in
     record { some = y.1.1.0; elems = t.0; ranges = t.1.0; falls = t.1.1.0; unit = t.1.1.1.0 }
 
-pub fine_all : (m : FieldMeaning) (cmp : Comparison) (j : Job) (ps : List (List Term)) → Enters m cmp j ps → All (Fine m cmp j.n) ps
+pub fine_all : (m : FieldMeaning) (cmp : Comparison) (j : Job) (ps : List (List Term)) → Enters m cmp j ps → AllByRecursion (Fine m cmp j.n) ps
 fine_all m cmp j [] h = tt
 fine_all m cmp j (p ∷ ps) h = (fine m cmp j p h.0, fine_all m cmp (holding j (p ∷ [])) ps h.1)
 
@@ -84,7 +84,7 @@ module _ (m : FieldMeaning) (laws : FieldLaws m) (cmp : Comparison) (O : OrderLa
   one_monic [] f = absurd (omega (arith, f.some))
   one_monic (t ∷ p) f = ap (λ (c : Elem m). (c, nested n t.1) ∷ P p) (elem_path m (el_word m laws t.0 (f.elems 0 f.some).0 ∙ f.unit))
 
-  one_falls : (p : List Term) → Fine m cmp n p → All (λ t. before_by cmp n t.1 (form.lead n (P p)) ≡ true) (form.rest n (P p))
+  one_falls : (p : List Term) → Fine m cmp n p → AllByRecursion (λ t. before_by cmp n t.1 (form.lead n (P p)) ≡ true) (form.rest n (P p))
   one_falls [] f = tt
   one_falls (t ∷ p) f =
       All-map (λ x. before_by cmp n x.1 (nested n t.1) ≡ true) _ (in_variables n p)
@@ -97,7 +97,7 @@ module _ (m : FieldMeaning) (laws : FieldLaws m) (cmp : Comparison) (O : OrderLa
   one_small [] f = absurd (omega (arith, f.some))
   one_small (t ∷ p) f = (records.nested_keeps n fits).bounds t.1 (small t.1 (f.ranges 0 f.some))
 
-  module _ (ps : List (List Term)) (fs : All (Fine m cmp n) ps) where
+  module _ (ps : List (List Term)) (fs : AllByRecursion (Fine m cmp n) ps) where
     abbrev L : List (Poly (Elem m) n)
     L = generators m laws n ps
 
@@ -133,7 +133,7 @@ module _ (m : FieldMeaning) (laws : FieldLaws m) (cmp : Comparison) (O : OrderLa
     pub passed : AllYes (stairs_asks m laws cmp n ps) → Passed F n (before_by cmp n) L
     passed y = record {
       monic = λ p l. subst (λ (x : Poly (Elem m) n). x ≡ (F.one, form.lead n x) ∷ form.rest n x) (sym (at_is p l)) (one_monic (get_or ps p []) (fine_at p l));
-      falls = λ p l. subst (λ (x : Poly (Elem m) n). All (λ t. before_by cmp n t.1 (form.lead n x) ≡ true) (form.rest n x)) (sym (at_is p l)) (one_falls (get_or ps p []) (fine_at p l));
+      falls = λ p l. subst (λ (x : Poly (Elem m) n). AllByRecursion (λ t. before_by cmp n t.1 (form.lead n x) ≡ true) (form.rest n x)) (sym (at_is p l)) (one_falls (get_or ps p []) (fine_at p l));
       not_one = λ p l. y.0 p (inside p l);
       bounded = bounded y.1.0;
       apart = λ p q l r d. go p q l r d (ℕ_discrete p q);

@@ -1,7 +1,7 @@
 -- A basis text reads back: Fill finds the lines that were written, and with them the polynomials.
 use Rattle.std.proofs.Common.{◌≡◌, ℕ, suc, ◌+◌, ◌<◌, ◌≤◌, true, List, [], ◌∷◌, ◌++◌, length, get_or, drop, replicate, sym, refl, ap, ◌∙◌, subst, ap₂, append_assoc, arith, length-append}
 use native.Mathlib.Decide.{dec_lt}
-use Rattle.std.specs.List.{flat_map, AllByRecursion as All}
+use Rattle.std.specs.List.{flat_map, AllByRecursion}
 use Rattle.std.specs.Result.{result_unwrap_or}
 use Rattle.std.proofs.ByRecursion.{All-get_or, All-from_get_or}
 use Rattle.std.proofs.lemmas.List.{drop_at}
@@ -31,7 +31,7 @@ record LineAt (c : ℕ) (ws tail bs : List ℕ) : Type 0 where
   pub leaves : next c bs ≡ tail
   pub passes : (l : ℕ) → AllYes (line_asks l c bs)
 
-line_at : (c : ℕ) (ws tail bs : List ℕ) → length ws ≡ c → All Word ws → bs ≡ line ws ++ tail → LineAt c ws tail bs
+line_at : (c : ℕ) (ws tail bs : List ℕ) → length ws ≡ c → AllByRecursion Word ws → bs ≡ line ws ++ tail → LineAt c ws tail bs
 unfolding words
 line_at c ws tail bs e h is = record {
   reads = ap (λ r. result_unwrap_or r (replicate c 0)) (ap₂ reading_line (sym e) is ∙ reading_line_line ws tail h);
@@ -47,7 +47,7 @@ abbrev Writable : ℕ → Term → Type 0
 Writable n t = InRange n t.1 × Word t.0
 
 module _ (n : ℕ) (fits : n ≤ variables) where
-  term_words : (t : Term) → Writable n t → (length (t.0 ∷ exponents n t.1) ≡ suc n) × All Word (t.0 ∷ exponents n t.1)
+  term_words : (t : Term) → Writable n t → (length (t.0 ∷ exponents n t.1) ≡ suc n) × AllByRecursion Word (t.0 ∷ exponents n t.1)
   term_words t h = (
     ap suc (length_build n (exponent t.1)),
     (
@@ -70,7 +70,7 @@ module _ (n : ℕ) (fits : n ≤ variables) where
     pub leaves : past_terms (suc n) (length p) bs ≡ tail
     pub passes : (l : ℕ) → AllYes (lines_asks l (suc n) (length p) bs)
 
-  terms_at : (p : List Term) (tail bs : List ℕ) → All (Writable n) p → bs ≡ flat_map (term_line n) p ++ tail → TermsAt p tail bs
+  terms_at : (p : List Term) (tail bs : List ℕ) → AllByRecursion (Writable n) p → bs ≡ flat_map (term_line n) p ++ tail → TermsAt p tail bs
   terms_at [] tail bs h is = record { reads = refl; leaves = is; passes = λ l. tt }
   terms_at (t ∷ p) tail bs h is =
       let w = term_words t h.0 in
@@ -84,7 +84,7 @@ module _ (n : ℕ) (fits : n ≤ variables) where
 
 module _ (m : FieldMeaning) (cmp : Comparison) where
   -- what Enter took can be written
-  writable : (i : Job) (p : List Term) → AllYes (enter_asks m cmp i p) → All (λ t. Word t.0) p → All (Writable i.n) p
+  writable : (i : Job) (p : List Term) → AllYes (enter_asks m cmp i p) → AllByRecursion (λ t. Word t.0) p → AllByRecursion (Writable i.n) p
   writable i p y h = All-from_get_or (Writable i.n) p (0, one) (λ k l. ((fine m cmp i p y).ranges k l, All-get_or (λ t. Word t.0) p k (0, one) l h))
 
   record PolynomialAt (i : Job) (p : List Term) (tail bs : List ℕ) : Type 0 where
@@ -92,7 +92,7 @@ module _ (m : FieldMeaning) (cmp : Comparison) where
     pub leaves : past i.n bs ≡ tail
     pub passes : (l : ℕ) → AllYes (polynomial_asks m cmp l i bs)
 
-  polynomial_at : (i : Job) → i.n ≤ variables → (p : List Term) (tail bs : List ℕ) → AllYes (enter_asks m cmp i p) → All (λ t. Word t.0) p → bs ≡ polynomial_text i.n p ++ tail → PolynomialAt i p tail bs
+  polynomial_at : (i : Job) → i.n ≤ variables → (p : List Term) (tail bs : List ℕ) → AllYes (enter_asks m cmp i p) → AllByRecursion (λ t. Word t.0) p → bs ≡ polynomial_text i.n p ++ tail → PolynomialAt i p tail bs
   polynomial_at i fits p tail bs y h is = record {
     reads = reads;
     leaves = ap (λ (k : ℕ). past_terms (suc i.n) k (next 1 bs)) count ∙ r.leaves;
@@ -121,7 +121,7 @@ module _ (m : FieldMeaning) (cmp : Comparison) where
     pub leaves : past_all i.n (length ps) bs ≡ tail
     pub passes : (l : ℕ) → AllYes (polynomials_asks m cmp l i (length ps) bs)
 
-  polynomials_at : (i : Job) → i.n ≤ variables → (ps : List (List Term)) (tail bs : List ℕ) → Enters m cmp i ps → All (All (λ t. Word t.0)) ps → bs ≡ flat_map (polynomial_text i.n) ps ++ tail → PolynomialsAt i ps tail bs
+  polynomials_at : (i : Job) → i.n ≤ variables → (ps : List (List Term)) (tail bs : List ℕ) → Enters m cmp i ps → AllByRecursion (AllByRecursion (λ t. Word t.0)) ps → bs ≡ flat_map (polynomial_text i.n) ps ++ tail → PolynomialsAt i ps tail bs
   polynomials_at i fits [] tail bs y h is = record { reads = refl; leaves = is; passes = λ l. tt }
   polynomials_at i fits (p ∷ ps) tail bs y h is =
       let x = polynomial_at i fits p (flat_map (polynomial_text i.n) ps ++ tail) bs y.0 h.0 (is ∙ append_assoc (polynomial_text i.n p) (flat_map (polynomial_text i.n) ps) tail) in

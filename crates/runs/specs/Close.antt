@@ -8,7 +8,7 @@
 --   close_asks m laws cmp j           the questions of Close
 -- Used by: Close. It answers D and closes the job.
 use Rattle.std.specs.Prelude.{◌≡◌, ℕ, ◌<◌, ◌≤◌, true, ◌≢◌, List, [], ◌∷◌, ◌++◌, length}
-use Rattle.std.specs.List.{AllByRecursion as All}
+use Rattle.std.specs.List.{AllByRecursion}
 use Rattle.field.specs.Meaning.{FieldMeaning, FieldLaws}
 use Rattle.order.specs.Laws.{Comparison}
 use Rattle.algebra.specs.Elements.{field_of}
@@ -32,7 +32,7 @@ module _ (m : FieldMeaning) (laws : FieldLaws m) (n : ℕ) (ps : List (List Term
 
 module _ (m : FieldMeaning) (laws : FieldLaws m) (cmp : Comparison) (n : ℕ) (ps : List (List Term)) where
   abbrev pub Inside : ℕ → Type 0
-  Inside p = All (λ t. Among n t.1 (stairs n (before_by cmp n) (generators m laws n ps))) (rest_at n (generators m laws n ps) p)
+  Inside p = AllByRecursion (λ t. Among n t.1 (stairs n (before_by cmp n) (generators m laws n ps))) (rest_at n (generators m laws n ps) p)
 
   abbrev pub stairs_asks : List Question
   stairs_asks =

@@ -21,7 +21,7 @@
 -- Used by: Fill. The codes of field and order are not compared. Theorems on whole texts: in Writing.
 use Rattle.std.specs.Prelude.{◌≡◌, ℕ, zero, suc, ◌+◌, ◌-◌, List, [], ◌∷◌, ◌++◌, length, drop, replicate, slice_index}
 use Rattle.std.specs.Result.{result_unwrap_or}
-use Rattle.std.specs.List.{AllByRecursion as All}
+use Rattle.std.specs.List.{AllByRecursion}
 use Rattle.column.specs.Column.{Word}
 use Rattle.column.specs.Line.{line, line_length, Begins, EndsAfter, reading_line}
 use Rattle.field.specs.Meaning.{FieldMeaning}
@@ -78,7 +78,7 @@ abbrev pub text_length : ℕ → List ℕ → ℕ
 text_length n bs = length bs - length (past_all n (header_count bs) (next 4 bs))
 
 abbrev pub Numbers : ℕ → List ℕ → Type 0
-Numbers c bs = (ws : List ℕ) × (length ws ≡ c) × All Word ws × Begins bs (line ws)
+Numbers c bs = (ws : List ℕ) × (length ws ≡ c) × AllByRecursion Word ws × Begins bs (line ws)
 
 abbrev pub line_asks : ℕ → ℕ → List ℕ → List Question
 line_asks l c bs =

@@ -13,7 +13,7 @@
 --   TextsEnter                 an accepted Fill does what Enter does for each polynomial of the text, one after the other, all of them accepted
 -- Used by: the writer of texts, and its round trips. It says in whole texts what Fill reads line by line.
 use Rattle.std.specs.Prelude.{◌≡◌, ℕ, ◌≤◌, List, [], ◌∷◌, ◌++◌, map, length, slice_index}
-use Rattle.std.specs.List.{flat_map, AllByRecursion as All}
+use Rattle.std.specs.List.{flat_map, AllByRecursion}
 use Rattle.column.specs.Column.{Word}
 use Rattle.column.specs.Line.{line}
 use Rattle.field.specs.Meaning.{FieldMeaning, FieldLaws}
@@ -58,7 +58,7 @@ pub record ReadBack (m : FieldMeaning) (laws : FieldLaws m) (cmp : Comparison) (
   pub enters : text_polynomials j.n (basis_text f o j.n j.polynomials ++ rest) ≡ j.polynomials
 
 abbrev pub TextsReadBack : Type 0
-TextsReadBack = (m : FieldMeaning) (laws : FieldLaws m) (cmp : Comparison) (j : Job) → Sound m laws cmp j → All (All (λ t. Word t.0)) j.polynomials
+TextsReadBack = (m : FieldMeaning) (laws : FieldLaws m) (cmp : Comparison) (j : Job) → Sound m laws cmp j → AllByRecursion (AllByRecursion (λ t. Word t.0)) j.polynomials
     → (f o : ℕ) → Word f → Word o → (rest : List ℕ) → ReadBack m laws cmp j f o rest
 
 abbrev pub enterings : List (List Term) → List Event

@@ -2,7 +2,7 @@
 use Rattle.std.proofs.Common.{◌≡◌, ℕ, ◌+◌, ◌<◌, ◌≤◌, Bool, true, false, ◌≢◌, ◌⊎◌, List, map, length, get_or, take, sym, ap, ◌∙◌, subst, inl, inr, arith}
 use mathlib.Core.Bool.{false≢true}
 use native.Mathlib.Decide.{ℕ_discrete, dec_lt}
-use Rattle.std.specs.List.{ContainsAt as Has, AllByRecursion as All}
+use Rattle.std.specs.List.{ContainsAt as Has, AllByRecursion}
 use Rattle.std.proofs.lemmas.List.{length-map, length-take-le, get_or-map, get_or_default}
 use Rattle.std.proofs.ByRecursion.{All-get_or, All-from_get_or, all-has, All-weaker, All-map}
 use Rattle.std.proofs.lemmas.Bool.{cases_Bool}
@@ -93,17 +93,17 @@ module _ (n : ℕ) (stairs : List Monomial) (Q : Raisable n stairs) where
     ordered : Ordered n (before_by cmp n)
     ordered = records.ordered n Q.few cmp O
 
-    module _ (l : List Monomial) (each : All Product l) where
-      fine : All (lists.Fine n Q.few) l
+    module _ (l : List Monomial) (each : AllByRecursion Product l) where
+      fine : AllByRecursion (lists.Fine n Q.few) l
       fine = All-weaker Product (lists.Fine n Q.few) product_fine l each
 
       abbrev R : List (Mono n)
       R = sorted n before (map (nested n) l)
 
-      edges : All (Edge n S) (sorted n (before_by cmp n) (map (nested n) l))
+      edges : AllByRecursion (Edge n S) (sorted n (before_by cmp n) (map (nested n) l))
       edges = sorting.all_sorted n (before_by cmp n) (Edge n S) (map (nested n) l) (All-map (Edge n S) (nested n) l (All-weaker Product (λ t. Edge n S (nested n t)) product_edge l each))
 
-      smalls : All (Small n) (map (nested n) l)
+      smalls : AllByRecursion (Small n) (map (nested n) l)
       smalls = lists.small_nested n Q.few l fine
 
       border-sorted : ((t : Monomial) → Product t → Has l t) → sorted n (before_by cmp n) (map (nested n) l) ≡ edges_of cmp n stairs
@@ -125,10 +125,10 @@ module _ (n : ℕ) (stairs : List Monomial) (Q : Raisable n stairs) where
               let same : before (get_or R j (one n)) (get_or R j (one n)) ≡ true = subst (λ (y : Mono n). before y (get_or R j (one n)) ≡ true) e (sorting.rising_at n before R (sorting.sorted-rising n before ordered _ smalls) i j ij h) in
               ordered.not_both _ _ small small same same
 
-          inside : All (Has (edges_of cmp n stairs)) R
+          inside : AllByRecursion (Has (edges_of cmp n stairs)) R
           inside = All-weaker (Edge n S) (Has (edges_of cmp n stairs)) (λ t e. let a = monos.has_among n t (edges_of cmp n stairs) (edge.edge_from n before S t e) in (a.0, a.1, λ d. get_or_default (edges_of cmp n stairs) a.0 d (one n) a.1 ∙ a.2)) R edges
 
-    products : (K I : ℕ) (l : List Monomial) → ((k i : ℕ) → Taken stairs K I k i → (k < n) × (i < length stairs)) → Edged stairs K I l → All Product l
+    products : (K I : ℕ) (l : List Monomial) → ((k i : ℕ) → Taken stairs K I k i → (k < n) × (i < length stairs)) → Edged stairs K I l → AllByRecursion Product l
     products K I l covered x = All-weaker _ Product (λ t y. let q = covered y.0 y.1 y.2 in (y.0, y.1, q.0, q.1, y.3)) l x.each
 
     -- the front of a list that holds the products of all n variables, and how long it is

@@ -1,6 +1,6 @@
 -- A list of different members, all of which stand in another list, is no longer than that.
 use Rattle.std.proofs.Common.{◌≡◌, ℕ, zero, suc, ◌<◌, ◌≤◌, ◌≢◌, List, [], ◌∷◌, length, get_or, sym, refl, ap, ◌∙◌, arith}
-use Rattle.std.specs.List.{ContainsAt as Has, AllByRecursion as All}
+use Rattle.std.specs.List.{ContainsAt as Has, AllByRecursion}
 use Rattle.std.proofs.ByRecursion.{All-from_get_or, All-get_or}
 
 module _ {A : Type 0} where
@@ -22,9 +22,9 @@ module _ {A : Type 0} where
   without_has (a ∷ l) (suc k) x n (zero, p, q) = (zero, omega arith, q)
   without_has (a ∷ l) (suc k) x n (suc i, p, q) = let y = without_has l k x n (i, omega arith, q) in (suc y.0, omega (arith, y.1), y.2)
 
-  pub no_longer : (d : A) (l s : List A) → ((i j : ℕ) → i < j → j < length l → get_or l i d ≢ get_or l j d) → All (Has s) l → length l ≤ length s
+  pub no_longer : (d : A) (l s : List A) → ((i j : ℕ) → i < j → j < length l → get_or l i d ≢ get_or l j d) → AllByRecursion (Has s) l → length l ≤ length s
   no_longer d [] s apart h = omega arith
   no_longer d (a ∷ l) s apart h =
       let at = h.0 in
-      let rest : All (Has (without s at.0)) l = All-from_get_or (Has (without s at.0)) l d (λ i q. without_has s at.0 (get_or l i d) (λ e z. apart 0 (suc i) (omega arith) (omega arith) (sym (at.2 e) ∙ z)) (All-get_or (Has s) l i d q h.1)) in
+      let rest : AllByRecursion (Has (without s at.0)) l = All-from_get_or (Has (without s at.0)) l d (λ i q. without_has s at.0 (get_or l i d) (λ e z. apart 0 (suc i) (omega arith) (omega arith) (sym (at.2 e) ∙ z)) (All-get_or (Has s) l i d q h.1)) in
       omega (arith, no_longer d l (without s at.0) (λ i j p q. apart (suc i) (suc j) (omega arith) (omega arith)) rest, without_length s at.0 at.1)

@@ -1,6 +1,6 @@
 -- What the walk finds is the staircase: every monomial of it is free, and every free monomial is reached by products from 1.
 use Rattle.std.proofs.Common.{◌≡◌, ℕ, ◌<◌, ◌≤◌, Bool, true, cond, ◌≢◌, List, [], ◌∷◌, map, length, get_or, take, Some, sym, refl, ap, ◌∙◌, subst, ap₂, arith}
-use Rattle.std.specs.List.{ContainsAt as Has, AllByRecursion as All}
+use Rattle.std.specs.List.{ContainsAt as Has, AllByRecursion}
 use Rattle.std.proofs.lemmas.List.{length-map, length-take-le, get_or-map, get_or_default}
 use Rattle.std.proofs.ByRecursion.{All-get_or, All-from_get_or, all-has}
 use Rattle.std.proofs.lemmas.Bool.{not-true, not_from_false}
@@ -28,7 +28,7 @@ module _ (n : ℕ) (leads : List Monomial) (Q : Leading n leads) where
   abbrev corners : List (Mono n)
   corners = map (nested n) leads
 
-  any_nested : (ls : List Monomial) → All (Within n) ls → (m : Monomial) → any (λ (l : Mono n). divides n l (nested n m)) (map (nested n) ls) ≡ any (λ d. record_of.divides d m) ls
+  any_nested : (ls : List Monomial) → AllByRecursion (Within n) ls → (m : Monomial) → any (λ (l : Mono n). divides n l (nested n m)) (map (nested n) ls) ≡ any (λ d. record_of.divides d m) ls
   any_nested [] w m = refl
   any_nested (d ∷ ls) w m = ap₂ (λ (b c : Bool). cond b true c) (sym ((records.nested_keeps n Q.few).divisors d m w.0)) (any_nested ls w.1 m)
 
@@ -45,7 +45,7 @@ module _ (n : ℕ) (leads : List Monomial) (Q : Leading n leads) where
       let e : exponent n (nested n m) k < largest = omega (arith, s, monos.exp_raise n k kn (nested n m)) in
       raised_is k m (omega (arith, Q.few)) (omega (arith, e, records.exponent_nested n Q.few m k kn))
 
-  fine_good : (l : List Monomial) → Good n leads l → All (lists.Fine n Q.few) l
+  fine_good : (l : List Monomial) → Good n leads l → AllByRecursion (lists.Fine n Q.few) l
   fine_good l g = All-from_get_or (lists.Fine n Q.few) l record_of.one (λ i h.
       let w = All-get_or (Within n) l i record_of.one h g.within in
       (w, lists.small_record n Q.few (get_or l i record_of.one) w (stair.free_small n corners Q.bounded _ (free_nested _ (All-get_or (Free leads) l i record_of.one h g.frees)))))
@@ -85,7 +85,7 @@ module _ (n : ℕ) (leads : List Monomial) (Q : Leading n leads) where
       rising = sorting.sorted-rising n before ordered (map (nested n) l) (lists.small_nested n Q.few l fine);
     }))
       where
-        fine : All (lists.Fine n Q.few) l
+        fine : AllByRecursion (lists.Fine n Q.few) l
         fine = fine_good l w.good
 
         unsorted : (t : Mono n) → Among n t (sorted n (before_by cmp n) (map (nested n) l)) → Among n t (map (nested n) l)
@@ -113,7 +113,7 @@ module _ (n : ℕ) (leads : List Monomial) (Q : Leading n leads) where
             let ih : i < length l = omega arith in
             g.apart i j ij jh (lists.nested_once n Q.few _ _ (All-get_or (Within n) l i record_of.one ih g.within) (All-get_or (Within n) l j record_of.one jh g.within) (sym (read i ih) ∙ e ∙ read j jh))
 
-        inside : All (Has (stairs_of cmp n leads)) (map (nested n) l)
+        inside : AllByRecursion (Has (stairs_of cmp n leads)) (map (nested n) l)
         inside = All-from_get_or (Has (stairs_of cmp n leads)) (map (nested n) l) (one n) (λ i h.
             let a = monos.has_among n _ (stairs_of cmp n leads) (stair.stairs_from n corners Q.bounded (before_by cmp n) _ (found_free l g (get_or (map (nested n) l) i (one n)) (i, h, refl))) in
             (a.0, a.1, λ d. get_or_default (stairs_of cmp n leads) a.0 d (one n) a.1 ∙ a.2))

@@ -1,7 +1,7 @@
 -- Lists of records and lists of monomials of n variables: members, sorting and the way back.
 use Rattle.std.proofs.Common.{◌≡◌, ℕ, ◌<◌, ◌≤◌, Bool, true, false, cond, List, [], ◌∷◌, map, length, get_or, Ordering, Less, Equal, Greater, sym, refl, ap, ◌∙◌, subst, ap₂, arith}
 use native.Mathlib.Decide.{dec_lt}
-use Rattle.std.specs.List.{ContainsAt as Has, AllByRecursion as All}
+use Rattle.std.specs.List.{ContainsAt as Has, AllByRecursion}
 use Rattle.std.proofs.lemmas.List.{length-map, get_or-map, get_or_default}
 use Rattle.std.proofs.ByRecursion.{All-weaker, All-map}
 use Rattle.order.specs.declared.monomial.Monomial.{Monomial}
@@ -36,7 +36,7 @@ module _ (n : ℕ) (fits : n ≤ variables) where
   nested_raise k kn m = let K = records.nested_keeps n fits in K.products (record_of.variable k) m ∙ ap (λ (x : Mono n). times n x (nested n m)) (K.variable k kn)
 
   -- records that have n variables are those of their monomials
-  pub flat_nested : (l : List Monomial) → All (Within n) l → map (flat n) (map (nested n) l) ≡ l
+  pub flat_nested : (l : List Monomial) → AllByRecursion (Within n) l → map (flat n) (map (nested n) l) ≡ l
   flat_nested [] w = refl
   flat_nested (m ∷ l) w = ap₂ (λ (x : Monomial) (y : List Monomial). x ∷ y) (records.forth n fits m w.0) (flat_nested l w.1)
 
@@ -56,12 +56,12 @@ module _ (n : ℕ) (fits : n ≤ variables) where
     compared : (x y : Monomial) → Fine x → Fine y → (r : Ordering) → r ≡ cmp x y → before_by cmp n (nested n x) (nested n y) ≡ less r
     compared x y v w r e = ap₂ (λ (a b : Monomial). less (cmp a b)) (records.forth n fits x v.0) (records.forth n fits y w.0) ∙ ap less (sym e)
 
-    pub fine_inserted : (m : Monomial) (l : List Monomial) → Fine m → All Fine l → All Fine (inserted_by cmp m l)
+    pub fine_inserted : (m : Monomial) (l : List Monomial) → Fine m → AllByRecursion Fine l → AllByRecursion Fine (inserted_by cmp m l)
     unfolding inserted_by
     fine_inserted m [] fm fl = (fm, tt)
     fine_inserted m (a ∷ l) fm fl = go (cmp m a) (fine_inserted m l fm fl.1)
       where
-        go : (r : Ordering) → All Fine (inserted_by cmp m l) → All Fine (put cmp m a l (inserted_by cmp m l) r)
+        go : (r : Ordering) → AllByRecursion Fine (inserted_by cmp m l) → AllByRecursion Fine (put cmp m a l (inserted_by cmp m l) r)
         go Less ih = (fm, fl)
         go Equal ih = fl
         go Greater ih = (fl.0, ih)
@@ -70,7 +70,7 @@ module _ (n : ℕ) (fits : n ≤ variables) where
     abbrev made : Monomial → Monomial → List Monomial → Bool → Bool → List (Mono n)
     made m a l b c = cond b (nested n m ∷ nested n a ∷ map (nested n) l) (cond c (nested n a ∷ map (nested n) l) (nested n a ∷ insert n (before_by cmp n) (nested n m) (map (nested n) l)))
 
-    nested_inserted : (m : Monomial) (l : List Monomial) → Fine m → All Fine l → map (nested n) (inserted_by cmp m l) ≡ insert n (before_by cmp n) (nested n m) (map (nested n) l)
+    nested_inserted : (m : Monomial) (l : List Monomial) → Fine m → AllByRecursion Fine l → map (nested n) (inserted_by cmp m l) ≡ insert n (before_by cmp n) (nested n m) (map (nested n) l)
     unfolding inserted_by
     nested_inserted m [] fm fl = refl
     nested_inserted m (a ∷ l) fm fl = go (cmp m a) refl (nested_inserted m l fm fl.1)
@@ -87,19 +87,19 @@ module _ (n : ℕ) (fits : n ≤ variables) where
         go Equal e ih = sym (ap₂ (made m a l) (compared m a fm fl.0 Equal e) (subst (λ (y : Monomial). equal n (nested n m) (nested n y) ≡ true) (O.equal m a fm.1 fl.0.1 (sym e)) (monos.equal_refl n (nested n m))))
         go Greater e ih = ap (λ (y : List (Mono n)). nested n a ∷ y) ih ∙ sym (ap₂ (made m a l) (compared m a fm fl.0 Greater e) (apart (equal n (nested n m) (nested n a)) refl e))
 
-    pub fine_sorted : (l : List Monomial) → All Fine l → All Fine (sorted_by cmp l)
+    pub fine_sorted : (l : List Monomial) → AllByRecursion Fine l → AllByRecursion Fine (sorted_by cmp l)
     unfolding sorted_by
     fine_sorted [] fl = tt
     fine_sorted (a ∷ l) fl = fine_inserted a (sorted_by cmp l) fl.0 (fine_sorted l fl.1)
 
-    pub nested_sorted : (l : List Monomial) → All Fine l → map (nested n) (sorted_by cmp l) ≡ sorted n (before_by cmp n) (map (nested n) l)
+    pub nested_sorted : (l : List Monomial) → AllByRecursion Fine l → map (nested n) (sorted_by cmp l) ≡ sorted n (before_by cmp n) (map (nested n) l)
     unfolding sorted_by
     nested_sorted [] fl = refl
     nested_sorted (a ∷ l) fl = nested_inserted a (sorted_by cmp l) fl.0 (fine_sorted l fl.1) ∙ ap (insert n (before_by cmp n) (nested n a)) (nested_sorted l fl.1)
 
     -- a sorted list of records is that of the sorted list of their monomials
-    pub sorted_records : (l : List Monomial) → All Fine l → (S : List (Mono n)) → sorted n (before_by cmp n) (map (nested n) l) ≡ S → sorted_by cmp l ≡ map (flat n) S
+    pub sorted_records : (l : List Monomial) → AllByRecursion Fine l → (S : List (Mono n)) → sorted n (before_by cmp n) (map (nested n) l) ≡ S → sorted_by cmp l ≡ map (flat n) S
     sorted_records l fl S e = sym (flat_nested (sorted_by cmp l) (All-weaker Fine (Within n) (λ m f. f.0) (sorted_by cmp l) (fine_sorted l fl))) ∙ ap (map (flat n)) (nested_sorted l fl ∙ e)
 
-  pub small_nested : (l : List Monomial) → All Fine l → All (Small n) (map (nested n) l)
+  pub small_nested : (l : List Monomial) → AllByRecursion Fine l → AllByRecursion (Small n) (map (nested n) l)
   small_nested l fl = All-map (Small n) (nested n) l (All-weaker Fine (λ m. Small n (nested n m)) (λ m f. (records.nested_keeps n fits).bounds m f.1) l fl)

@@ -1,7 +1,7 @@
 -- The coefficients of a list of terms, one term at a time, and the words of the first rule.
 use Rattle.std.proofs.Common.{◌≡◌, ℕ, zero, suc, ◌+◌, ◌-◌, ◌<◌, ◌≤◌, Bool, true, false, cond, T, List, [], ◌∷◌, map, length, get_or, take, drop, Decides, sym, refl, ap, ◌∙◌, subst, ap₂, arith}
 use mathlib.Core.Bool.{false≢true}
-use Rattle.std.specs.List.{AllByRecursion as All}
+use Rattle.std.specs.List.{AllByRecursion}
 use Rattle.std.proofs.lemmas.List.{at_drop_more, at_drop_all, ext_get_or, length-map, length-take-le, get_or-map, get_or-take}
 use Rattle.field.specs.Meaning.{FieldMeaning, FieldLaws, FieldTotal}
 use Rattle.order.specs.declared.monomial.Monomial.{Monomial}
@@ -86,7 +86,7 @@ module _ (m : FieldMeaning) (n : ℕ) (few : n ≤ variables) where
       go true e = sym (subst (λ (x : Monomial). equal n (nested n a) (nested n x) ≡ true) (lists.nested_once variables (omega arith) a b (all_within a) (all_within b) (monos.equal_eq variables _ _ e)) (monos.equal_refl n (nested n a)))
       go false e = sym (monos.equal_not n _ _ (λ q. false≢true (sym e ∙ subst (λ (x : Monomial). equal variables (nested variables a) (nested variables x) ≡ true) (lists.nested_once n few a b v w q) (monos.equal_refl variables (nested variables a)))))
 
-  coefficients_agree : (x : Monomial) → Within n x → (p : List Term) → All (λ t. Within n t.monomial) p → coefficient (words m) variables (poly_of variables p) (nested variables x) ≡ coefficient (words m) n (poly_of n p) (nested n x)
+  coefficients_agree : (x : Monomial) → Within n x → (p : List Term) → AllByRecursion (λ t. Within n t.monomial) p → coefficient (words m) variables (poly_of variables p) (nested variables x) ≡ coefficient (words m) n (poly_of n p) (nested n x)
   coefficients_agree x w [] h = refl
   coefficients_agree x w (t ∷ p) h = ap₂ (λ (b : Bool) (r : ℕ). m.add (m.mul t.coefficient (cond b m.one m.zero)) r) (tests_agree x t.monomial w h.0) (coefficients_agree x w p h.1)
 

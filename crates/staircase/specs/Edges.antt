@@ -10,7 +10,7 @@
 --   Edges cmp stairs K I e      e holds them in increasing order, each once
 -- Used by: the call that makes the border; the last four by its inner functions.
 use Rattle.std.specs.Prelude.{◌≡◌, ℕ, ◌<◌, ◌≤◌, ◌⊎◌, List, map, length, take, drop, Some, None, Option, slice_index_or}
-use Rattle.std.specs.List.{ContainsAt as Has, AllByRecursion as All}
+use Rattle.std.specs.List.{ContainsAt as Has, AllByRecursion}
 use Rattle.order.specs.declared.monomial.Monomial.{Monomial}
 use Rattle.order.specs.Monomials.{variables, largest, exponent, one, raised}
 use Rattle.order.specs.Laws.{Comparison}
@@ -22,8 +22,8 @@ use Rattle.staircase.specs.Stairs.{Leading, stairs_of}
 
 pub record Raisable (n : ℕ) (stairs : List Monomial) : Type 0 where
   pub few : n ≤ variables
-  pub within : All (Within n) stairs
-  pub room : All (λ m. (k : ℕ) → k < n → exponent m k < largest) stairs
+  pub within : AllByRecursion (Within n) stairs
+  pub room : AllByRecursion (λ m. (k : ℕ) → k < n → exponent m k < largest) stairs
 
 abbrev pub edges_of : Comparison → (n : ℕ) → List Monomial → List (Mono n)
 edges_of cmp n stairs = border n (before_by cmp n) (map (nested n) stairs)
@@ -49,7 +49,7 @@ module _ (stairs : List Monomial) where
   Taken K I k i = ((k < K) × (i < length stairs)) ⊎ ((k ≡ K) × (i < I))
 
   pub record Edged (K I : ℕ) (l : List Monomial) : Type 0 where
-    pub each : All (λ t. (k : ℕ) × (i : ℕ) × Taken K I k i × Outside k i t) l
+    pub each : AllByRecursion (λ t. (k : ℕ) × (i : ℕ) × Taken K I k i × Outside k i t) l
     pub all : (k i : ℕ) (t : Monomial) → Taken K I k i → Outside k i t → Has l t
 
 abbrev pub Edges : Comparison → List Monomial → ℕ → ℕ → List Monomial → Type 0

@@ -4,7 +4,7 @@
 --   OppositesRule                        where a monomial leads a polynomial with that rest, they are its normal form by the first rule
 -- Used by: the calls that make the columns of the border.
 use Rattle.std.specs.Prelude.{◌≡◌, ℕ, ◌≤◌, List, map, length, slice_index_or}
-use Rattle.std.specs.List.{AllByRecursion as All}
+use Rattle.std.specs.List.{AllByRecursion}
 use Rattle.field.specs.Meaning.{FieldMeaning}
 use Rattle.order.specs.declared.monomial.Monomial.{Monomial}
 use Rattle.order.specs.Monomials as record_of
@@ -24,5 +24,5 @@ abbrev pub opposite_words : FieldMeaning → List Term → List Monomial → Lis
 opposite_words m rest stairs = build (length stairs) (λ j. m.neg (coefficient (words m) variables (poly_of variables rest) (nested variables (slice_index_or stairs j record_of.one))))
 
 abbrev pub OppositesRule : Type 0
-OppositesRule = (m : FieldMeaning) (n : ℕ) → n ≤ variables → (S : List (Mono n)) (L : List (Poly ℕ n)) (t : Mono n) (rest : List Term) → All (λ x. Within n x.monomial) rest → rest_of n L t ≡ poly_of n rest
+OppositesRule = (m : FieldMeaning) (n : ℕ) → n ≤ variables → (S : List (Mono n)) (L : List (Poly ℕ n)) (t : Mono n) (rest : List Term) → AllByRecursion (λ x. Within n x.monomial) rest → rest_of n L t ≡ poly_of n rest
     → opposite_words m rest (map (flat n) S) ≡ opposite (words m) n S L t

@@ -6,7 +6,7 @@
 --   RestStays                 what a call leaves past the monomials that it wrote, and where it refuses
 -- Used by: the call that finds the staircase.
 use Rattle.std.specs.Prelude.{◌≡◌, ℕ, ◌<◌, ◌≤◌, List, map, length, take, drop, Ok, Err, Result}
-use Rattle.std.specs.List.{AllByRecursion as All}
+use Rattle.std.specs.List.{AllByRecursion}
 use Rattle.order.specs.declared.monomial.Monomial.{Monomial}
 use Rattle.order.specs.Monomials.{variables}
 use Rattle.order.specs.Laws.{Comparison}
@@ -18,7 +18,7 @@ use Rattle.staircase.specs.declared.stairs.StairsFault.TheVariants.{NoRoom, TooM
 
 pub record Leading (n : ℕ) (leads : List Monomial) : Type 0 where
   pub few : n ≤ variables
-  pub within : All (Within n) leads
+  pub within : AllByRecursion (Within n) leads
   pub bounded : Bounded n (map (nested n) leads)
 
 abbrev pub stairs_of : Comparison → (n : ℕ) → List Monomial → List (Mono n)

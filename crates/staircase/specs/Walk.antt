@@ -7,7 +7,7 @@
 --   Walked n leads l i       l is good, holds 1 where that is free, and every free product of one of its first i members and a variable
 -- Used by: the inner functions that walk. What the staircase promises is said with the staircase of the definitions.
 use Rattle.std.specs.Prelude.{◌≡◌, ℕ, ◌<◌, false, ◌≢◌, ◌⊎◌, List, [], ◌∷◌, ◌++◌, length, Some, slice_index_or}
-use Rattle.std.specs.List.{ContainsAt as Has, AllByRecursion as All}
+use Rattle.std.specs.List.{ContainsAt as Has, AllByRecursion}
 use Rattle.order.specs.declared.monomial.Monomial.{Monomial}
 use Rattle.order.specs.Monomials.{one, divides, raised}
 use Rattle.algebra.specs.Lists.{any}
@@ -23,8 +23,8 @@ abbrev pub Offered : List Monomial → List Monomial → Monomial → List Monom
 Offered leads l m r = ((r ≡ l) × (Free leads m → Has l m)) ⊎ ((r ≡ l ++ m ∷ []) × New leads l m)
 
 pub record Good (n : ℕ) (leads l : List Monomial) : Type 0 where
-  pub frees : All (Free leads) l
-  pub within : All (Within n) l
+  pub frees : AllByRecursion (Free leads) l
+  pub within : AllByRecursion (Within n) l
   pub apart : (i j : ℕ) → i < j → j < length l → slice_index_or l i one ≢ slice_index_or l j one
 
 pub record Grown (n : ℕ) (leads l : List Monomial) (m : Monomial) (k : ℕ) (r : List Monomial) : Type 0 where

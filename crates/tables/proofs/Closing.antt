@@ -3,7 +3,7 @@
 use Rattle.std.proofs.Common.{◌≡◌, ℕ, ◌<◌, ◌≤◌, Bool, true, false, cond, T, List, [], ◌∷◌, map, length, get_or, sym, refl, ap, ◌∙◌, subst, ap₂, arith}
 use mathlib.Core.Bool.{false≢true}
 use lib.ListN.{length-map}
-use Rattle.std.specs.List.{AllByRecursion as All}
+use Rattle.std.specs.List.{AllByRecursion}
 use Rattle.std.proofs.lemmas.List.{get_or-map}
 use Rattle.std.proofs.ByRecursion.{All-map, All-get_or, All-from_get_or, All-weaker}
 use Rattle.field.specs.Meaning.{FieldMeaning, FieldLaws}
@@ -67,7 +67,7 @@ any_lead n [] t = refl
 any_lead n (p ∷ L) t = ap (λ b. cond (equal n (lead n p) t) true b) (any_lead n L t)
 
 module _ (m : FieldMeaning) (cmp : Comparison) (n : ℕ) where
-  terms_within : (p : List code.Term) → Fine m cmp n (terms_of p) → (0 < length p) × All (λ t. Within n t.monomial) p
+  terms_within : (p : List code.Term) → Fine m cmp n (terms_of p) → (0 < length p) × AllByRecursion (λ t. Within n t.monomial) p
   terms_within p f =
       let len : length (terms_of p) ≡ length p = length-map p (λ (t : code.Term). (t.coefficient, t.monomial)) in
       let none : code.Term = record { coefficient = 0; monomial = record_of.one } in (
@@ -76,11 +76,11 @@ module _ (m : FieldMeaning) (cmp : Comparison) (n : ℕ) where
             subst (λ (x : Term). Within n x.1) (get_or-map (λ (t : code.Term). (t.coefficient, t.monomial)) p i none (0, record_of.one) l) (within n _ (f.ranges i (omega (arith, len))))),
       )
 
-  all_terms_within : (es : List (List code.Term)) → All (Fine m cmp n) (map terms_of es) → All (λ p. (0 < length p) × All (λ t. Within n t.monomial) p) es
+  all_terms_within : (es : List (List code.Term)) → AllByRecursion (Fine m cmp n) (map terms_of es) → AllByRecursion (λ p. (0 < length p) × AllByRecursion (λ t. Within n t.monomial) p) es
   all_terms_within [] fs = tt
   all_terms_within (p ∷ es) fs = (terms_within p fs.0, all_terms_within es fs.1)
 
-  element_terms : (ps : List (List Term)) → All (Fine m cmp n) ps → ElementTerms m n (map (in_variables n) ps)
+  element_terms : (ps : List (List Term)) → AllByRecursion (Fine m cmp n) ps → ElementTerms m n (map (in_variables n) ps)
   element_terms [] fs = tt
   element_terms (p ∷ ps) fs = (All-map (λ t. T (m.elem t.0)) _ p (All-from_get_or (λ t. T (m.elem t.0)) p (0, record_of.one) (λ i l. (fs.0.elems i l).0)), element_terms ps fs.1)
 
@@ -106,7 +106,7 @@ module _ (m : FieldMeaning) (laws : FieldLaws m) (cmp : Comparison) (O : OrderLa
   abbrev E : List (Mono n)
   E = edges n before L
 
-  fines : All (Fine m cmp n) ps
+  fines : AllByRecursion (Fine m cmp n) ps
   fines = fine_all m cmp (new n) ps C.entered
 
   ordered : Ordered n before
@@ -136,7 +136,7 @@ module _ (m : FieldMeaning) (laws : FieldLaws m) (cmp : Comparison) (O : OrderLa
   pub placeable : AllPlaceable n (map (flat n) S) (map (flat n) E)
   placeable k kn = (placed_in k kn).placeable 48 C.short (omega (arith, C.short)) (omega (arith, edges_few))
 
-  edge_all : All (borders.Edge n S) E
+  edge_all : AllByRecursion (borders.Edge n S) E
   edge_all = borders.edge_to n before S
 
   edge_small : (t : Mono n) → borders.Edge n S t → Small n t

@@ -2,7 +2,7 @@
 use Rattle.std.proofs.Common.{◌≡◌, ℕ, zero, suc, ◌*◌, ◌<◌, ◌≤◌, Bool, true, false, cond, not, List, [], ◌∷◌, map, length, get_or, filter, sym, refl, subst, arith, length-append}
 use native.Mathlib.Decide.{dec_lt}
 use lib.ListN.{length-map}
-use Rattle.std.specs.List.{AllByRecursion as All}
+use Rattle.std.specs.List.{AllByRecursion}
 use Rattle.std.proofs.ByRecursion.{All-get_or}
 use Rattle.std.proofs.lemmas.List.Filters.{length-filter_both}
 use Rattle.algebra.specs.Lists.{any, joined}
@@ -37,7 +37,7 @@ module _ (n : ℕ) (before : Mono n → Mono n → Bool) where
       let outside : Mono n → Bool = λ m. not (any (equal n m) S) in
       omega (arith, sorted_length (filter outside products), length-filter_both outside (λ m. not (outside m)) (λ _. refl) products, joined_length n (λ k. map (times n (var n k)) S) (λ k. omega (arith, length-map S (times n (var n k)))))
 
-  pub rising_once : Ordered n before → (l : List (Mono n)) → All (Small n) l → Rising n before l → OnceEach n l
+  pub rising_once : Ordered n before → (l : List (Mono n)) → AllByRecursion (Small n) l → Rising n before l → OnceEach n l
   rising_once O l small r i j hi hj e = go (dec_lt i j) (dec_lt j i)
     where
       never : (a b : ℕ) → a < b → b < length l → get_or l a (one n) ≡ get_or l b (one n) → ⊥

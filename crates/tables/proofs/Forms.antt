@@ -2,7 +2,7 @@
 use Rattle.std.proofs.Common.{◌≡◌, ℕ, zero, suc, ◌+◌, ◌*◌, ◌<◌, ◌≤◌, Bool, true, false, cond, T, List, [], ◌∷◌, ◌++◌, length, get_or, take, drop, Some, None, sym, refl, ap, ◌∙◌, subst, ap₂, arith, length-drop}
 use lib.ListN.{length-map}
 use lib.Seq.{paste}
-use Rattle.std.specs.List.{AllByRecursion as All}
+use Rattle.std.specs.List.{AllByRecursion}
 use Rattle.std.proofs.lemmas.List.{take_more, take_all, length-take-le, get_or-take, get_or-drop}
 use Rattle.std.proofs.ByRecursion.{All-get_or, All-drop}
 use Rattle.field.specs.Meaning.{FieldMeaning, FieldLaws, FieldTotal}
@@ -147,7 +147,7 @@ module _ (m : FieldMeaning) (n : ℕ) (S E : List (Mono n)) (ps : List (List Ter
           let x = rule.led n K.few ps K.terms t within i f in
           let led : any (λ p. equal n (lead n p) t') L ≡ true = subst (λ (y : Mono n). any (λ p. equal n (lead n p) y) L ≡ true) is x.0 in
           let rest : rest_of n L t' ≡ poly_of n (drop 1 (get_or ps i [])) = subst (λ (y : Mono n). rest_of n L y ≡ poly_of n (drop 1 (get_or ps i []))) is x.1 in
-          let terms = All-get_or (λ p. (0 < length p) × All (λ t. Within n t.monomial) p) ps i [] f.0 K.terms in
+          let terms = All-get_or (λ p. (0 < length p) × AllByRecursion (λ t. Within n t.monomial) p) ps i [] f.0 K.terms in
           let words_are : opposite_words m (drop 1 (get_or ps i [])) stairs ≡ opposite (words m) n S L t' =
           ap (opposite_words m (drop 1 (get_or ps i []))) K.stairs_are ∙ opposites_rule m n K.few S L t' (drop 1 (get_or ps i [])) (All-drop (λ t. Within n t.monomial) 1 (get_or ps i []) terms.1) rest in
           subst (λ (col : List ℕ). ColumnsHold m n S E ((t', col) ∷ tab) after 48) (sym (by-opposite led))

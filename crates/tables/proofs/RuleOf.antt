@@ -2,7 +2,7 @@
 use Rattle.std.proofs.Common.{◌≡◌, ℕ, zero, suc, ◌<◌, ◌≤◌, Bool, true, false, cond, ◌&&◌, ltb, leb, List, [], ◌∷◌, map, length, get_or, drop, Some, None, sym, refl, ap, ◌∙◌, subst, ap₂, arith}
 use native.Mathlib.Decide.{ℕ_discrete, dec_lt}
 use lib.ListN.{length-map}
-use Rattle.std.specs.List.{AllByRecursion as All}
+use Rattle.std.specs.List.{AllByRecursion}
 use Rattle.std.proofs.lemmas.List.{get_or-map}
 use Rattle.std.proofs.lemmas.Bool.{le-leb, lt-ltb, ltb-true}
 use Rattle.order.specs.declared.monomial.Monomial.{Monomial}
@@ -62,7 +62,7 @@ module _ (n : ℕ) (few : n ≤ variables) where
   -- ---- the polynomial that a monomial leads
 
   abbrev TermsWithin : List Term → Type 0
-  TermsWithin p = (0 < length p) × All (λ t. Within n t.monomial) p
+  TermsWithin p = (0 < length p) × AllByRecursion (λ t. Within n t.monomial) p
 
   abbrev is_lead : List (List Term) → Monomial → Bool
   is_lead ps t = any (λ p. equal n (lead n p) (nested n t)) (polys_of n ps)
@@ -70,7 +70,7 @@ module _ (n : ℕ) (few : n ≤ variables) where
   led_not : (x : Term) (p : List Term) (t : Monomial) → Within n x.monomial → Within n t → (LedBy (x ∷ p) t → ⊥) → equal n (nested n x.monomial) (nested n t) ≡ false
   led_not x p t v w h = monos.equal_not n _ _ (λ e. h (omega arith, lists.nested_once n few x.monomial t v w e))
 
-  pub led : (ps : List (List Term)) → All TermsWithin ps → (t : Monomial) → Within n t → (i : ℕ) → FirstLed ps t (Some i)
+  pub led : (ps : List (List Term)) → AllByRecursion TermsWithin ps → (t : Monomial) → Within n t → (i : ℕ) → FirstLed ps t (Some i)
       → (is_lead ps t ≡ true) × (rest_of n (polys_of n ps) (nested n t) ≡ poly_of n (drop 1 (get_or ps i [])))
   led [] oks t w i f = absurd (omega (arith, f.0))
   led ([] ∷ ps) oks t w i f = absurd (omega (arith, oks.0.0))
@@ -82,7 +82,7 @@ module _ (n : ℕ) (few : n ≤ variables) where
       let ih = led ps oks.1 t w i (omega (arith, f.0), f.1, λ j l. f.2 (suc j) (omega arith)) in
       (ap (λ b. cond b true (is_lead ps t)) other ∙ ih.0, ap (λ b. cond b (poly_of n p) (rest_of n (polys_of n ps) (nested n t))) other ∙ ih.1)
 
-  pub not_led : (ps : List (List Term)) → All TermsWithin ps → (t : Monomial) → Within n t → FirstLed ps t None → is_lead ps t ≡ false
+  pub not_led : (ps : List (List Term)) → AllByRecursion TermsWithin ps → (t : Monomial) → Within n t → FirstLed ps t None → is_lead ps t ≡ false
   not_led [] oks t w f = refl
   not_led ([] ∷ ps) oks t w f = absurd (omega (arith, oks.0.0))
   not_led ((x ∷ p) ∷ ps) oks t w f =

@@ -16,7 +16,7 @@
 --   ColumnsMade                  then r is yes and the columns after hold the table of all border monomials
 -- Used by: the making of the columns.
 use Rattle.std.specs.Prelude.{◌≡◌, ℕ, ◌<◌, ◌≤◌, Bool, false, T, List, [], ◌∷◌, map, length, get_or, Some, None, Option, slice_index_or}
-use Rattle.std.specs.List.{AllByRecursion as All}
+use Rattle.std.specs.List.{AllByRecursion}
 use Rattle.field.specs.Meaning.{FieldMeaning}
 use Rattle.order.specs.declared.monomial.Monomial.{Monomial}
 use Rattle.order.specs.Monomials as record_of
@@ -65,7 +65,7 @@ polys_of n ps = map (poly_of n) ps
 
 pub record ColumnsKnown (n : ℕ) (S E : List (Mono n)) (ps : List (List Term)) (stairs edges : List Monomial) (places : List Place) : Type 0 where
   pub few : n ≤ variables
-  pub terms : All (λ p. (0 < length p) × All (λ t. Within n t.monomial) p) ps
+  pub terms : AllByRecursion (λ p. (0 < length p) × AllByRecursion (λ t. Within n t.monomial) p) ps
   pub stairs_are : stairs ≡ map (flat n) S
   pub edges_are : edges ≡ map (flat n) E
   pub short : length S ≤ 48

@@ -1,7 +1,7 @@
 -- Where lines, terms, polynomials and the whole text come to stand.
 use Rattle.std.proofs.Common.{◌≡◌, ℕ, zero, suc, ◌+◌, ◌*◌, ◌<◌, ◌≤◌, List, [], ◌∷◌, ◌++◌, length, get_or, take, drop, Ok, sym, ap, ◌∙◌, subst, ap₂, mul-le-mul, zero-add, arith, length-append}
 use lib.ListN.{length-map}
-use Rattle.std.specs.List.{flat_map, AllByRecursion as All}
+use Rattle.std.specs.List.{flat_map, AllByRecursion}
 use Rattle.std.proofs.lemmas.List.{get_or-map}
 use Rattle.std.proofs.ByRecursion.{All-more}
 use Rattle.column.specs.Column.{Word}
@@ -41,10 +41,10 @@ module _ (n : ℕ) (ts : List Term) (start : List ℕ) (at : ℕ) where
       (ap length (sym text) ∙ long ∙ ap line_length wide) (e ∙ ap (put out end) text) (after ∙ ap (λ (k : ℕ). end + line_length k) wide)
 
   -- the coefficient of the next is a word
-  pub terms_fit : (i : ℕ) (d : Term) (ws : List ℕ) → i < length ts → ws ≡ term_words n (of (get_or ts i d)) → All Word ws → Words (take i (terms_of ts)) → Words (take (i + 1) (terms_of ts))
+  pub terms_fit : (i : ℕ) (d : Term) (ws : List ℕ) → i < length ts → ws ≡ term_words n (of (get_or ts i d)) → AllByRecursion Word ws → Words (take i (terms_of ts)) → Words (take (i + 1) (terms_of ts))
   terms_fit i d ws h is fit before =
       let same : get_or (terms_of ts) i (0, one) ≡ of (get_or ts i d) = get_or-map of ts i d (0, one) h in
-      let all : All Word (term_words n (of (get_or ts i d))) = subst (All Word) is fit in
+      let all : AllByRecursion Word (term_words n (of (get_or ts i d))) = subst (AllByRecursion Word) is fit in
       All-more (λ (t : job.Term). Word t.0) (terms_of ts) i (0, one) (omega (arith, length_terms ts)) before (subst (λ (t : job.Term). Word t.0) (sym same) all.0)
 
   pub terms_all : (i end : ℕ) (out : List ℕ) → length ts ≤ i → Parts (term_line n) (term_size n) (terms_of ts) start at i out end

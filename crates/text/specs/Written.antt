@@ -13,7 +13,7 @@
 --   text_size n ps                           how many bytes the basis text of ps has
 -- Used by: Write; all but Wrote and ReadsBack are inner.
 use Rattle.std.specs.Prelude.{◌≡◌, ℕ, suc, ◌+◌, ◌*◌, ◌<◌, List, [], ◌∷◌, ◌++◌, length, drop, Ok, Err, Result}
-use Rattle.std.specs.List.{AllByRecursion as All}
+use Rattle.std.specs.List.{AllByRecursion}
 use Rattle.column.specs.Column.{Word}
 use Rattle.column.specs.Line.{line_length}
 use Rattle.field.specs.Meaning.{FieldMeaning, FieldLaws}
@@ -32,10 +32,10 @@ pub record ReadsBack (m : FieldMeaning) (laws : FieldLaws m) (cmp : Comparison) 
   pub enters : (rest : List ℕ) → text_polynomials j.n (written ++ rest) ≡ j.polynomials
 
 abbrev pub Words : List Term → Type 0
-Words p = All (λ t. Word t.0) p
+Words p = AllByRecursion (λ t. Word t.0) p
 
 abbrev pub AllWords : List (List Term) → Type 0
-AllWords ps = All Words ps
+AllWords ps = AllByRecursion Words ps
 
 abbrev pub term_words : ℕ → Term → List ℕ
 term_words n t = t.0 ∷ exponents n t.1

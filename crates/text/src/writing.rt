@@ -1,7 +1,7 @@
 // Write: the basis text of a job's polynomials. Room for the whole text is asked for first, so that
 // where there is none nothing is written.
 ghost use Rattle.std.specs.Prelude.{◌≡◌, suc, ◌+◌, ◌≤◌, length, take, Ok, Err};
-ghost use Rattle.std.specs.List.{flat_map, AllByRecursion as All};
+ghost use Rattle.std.specs.List.{flat_map, AllByRecursion};
 ghost use Rattle.field.specs.Meaning.{FieldLaws};
 ghost use Rattle.column.specs.Column.{Word};
 ghost use Rattle.column.specs.Line.{line, line_length};
@@ -44,7 +44,7 @@ fn text_length(polynomials: &Polynomials, n: usize) -> usize
 // Writes the line of the words at a place that has room for it, and answers the place after it.
 fn put_line(out: &mut [u8], at: usize, words: &[u32]) -> usize
     requires { at + line_length (length words.now) ≤ length out.old }
-    ensures fit { All Word words.now }
+    ensures fit { AllByRecursion Word words.now }
     ensures long { length (line words.now) ≡ line_length (length words.now) }
     ensures place_after { result ≡ at + line_length (length words.now) }
     ensures bytes { out.new ≡ put out.old at (line words.now) }

@@ -5,7 +5,7 @@
 --   refused by 25  the coefficients of the recurrence, rows dual to those of its table, and rows dual to the Krylov vectors
 -- Every test is run here: it computes to true.
 use Rattle.std.proofs.Common.{ℕ, List, [], ◌∷◌, refl}
-use Rattle.std.specs.List.{AllByRecursion as All}
+use Rattle.std.specs.List.{AllByRecursion}
 use Rattle.field.specs.Bytes.{power_254, byte_product, poly_product, poly_remainder}
 use Rattle.order.specs.Monomials.{exponent, monomial, degree}
 use Rattle.order.specs.Orders.{drl, lowest}
@@ -90,7 +90,7 @@ infixr 40 ◌▸◌
 abbrev ◌▸◌ : {A B : Type 0} → A → B → A × B
 ◌▸◌ a b = (a, b)
 
-rows : All Holds examples
+rows : AllByRecursion Holds examples
 unfolding drl lowest exponent monomial degree
 rows =
     (λ laws. close_accepted (gf 7) drl 2 triple triple_matrices triple_closes laws)

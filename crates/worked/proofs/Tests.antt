@@ -1,6 +1,6 @@
 -- Computed tests that answer questions: a list of questions with a test for each is answered by running them.
 use Rattle.std.proofs.Common.{◌≡◌, ℕ, zero, suc, ◌<◌, ◌≤◌, Bool, true, false, cond, not, ◌&&◌, T, eqb, leb, ◌⊎◌, List, [], ◌∷◌, ◌++◌, Ordering, Less, Equal, Greater, sym, refl, ap, ◌∙◌, subst, inl, inr, arith}
-use Rattle.std.specs.List.{AllByRecursion as All}
+use Rattle.std.specs.List.{AllByRecursion}
 use Rattle.std.proofs.lemmas.Bool.{true≢false, both_ways, cases_Bool, and_parts, and_cases, not-true, not-false, not_from_false, eqb-true, eqb-false, leb-true, leb-false}
 use Rattle.order.specs.Monomials.{every}
 use Rattle.order.specs.Exponents.{every_to}
@@ -123,19 +123,19 @@ passed p [] = true
 passed p (a ∷ l) = p a && passed p l
 
 module _ {A : Type 0} (P : A → Type 0) (k : (a : A) → Known (P a)) where
-  pub all_holds : (l : List A) → passed (λ a. (k a).test) l ≡ true → All P l
+  pub all_holds : (l : List A) → passed (λ a. (k a).test) l ≡ true → AllByRecursion P l
   all_holds [] e = tt
   all_holds (a ∷ l) e = let x = and_parts (k a).test (passed (λ a. (k a).test) l) e in ((k a).holds x.0, all_holds l x.1)
 
-  pub all_fails : (l : List A) → passed (λ a. (k a).test) l ≡ false → All P l → ⊥
+  pub all_fails : (l : List A) → passed (λ a. (k a).test) l ≡ false → AllByRecursion P l → ⊥
   all_fails [] e h = true≢false e
   all_fails (a ∷ l) e h = go (and_cases (k a).test (passed (λ a. (k a).test) l) e) (all_fails l)
     where
-      go : ((k a).test ≡ false) ⊎ (passed (λ a. (k a).test) l ≡ false) → (passed (λ a. (k a).test) l ≡ false → All P l → ⊥) → ⊥
+      go : ((k a).test ≡ false) ⊎ (passed (λ a. (k a).test) l ≡ false) → (passed (λ a. (k a).test) l ≡ false → AllByRecursion P l → ⊥) → ⊥
       go (inl x) f = (k a).fails x h.0
       go (inr x) f = f x h.1
 
-  abbrev pub all_of : (l : List A) → Known (All P l)
+  abbrev pub all_of : (l : List A) → Known (AllByRecursion P l)
   all_of l = record { test = passed (λ a. (k a).test) l; holds = all_holds l; fails = all_fails l }
 
 -- stages, orderings and monomials

@@ -16,7 +16,7 @@
 --   WorkedExamples             every row of the table holds; the staircase of the triple is 1, x_1, x_2; a product and an inverse in the byte field
 -- Used by: worked_examples_hold. Sound and Answers are those that the contracts of the calls cite.
 use Rattle.std.specs.Prelude.{◌≡◌, ℕ, List, [], ◌∷◌, Some}
-use Rattle.std.specs.List.{AllByRecursion as All}
+use Rattle.std.specs.List.{AllByRecursion}
 use Rattle.field.specs.Meaning.{FieldMeaning, FieldLaws, total}
 use Rattle.field.specs.Residues.{residues}
 use Rattle.field.specs.Bytes.{bytes}
@@ -106,7 +106,7 @@ abbrev pub Holds : Row → Type 0
 Holds e = (laws : FieldLaws (gf e.p)) → Sound (gf e.p) laws drl e.job × Answers (gf e.p) laws drl e.job e.call e.answer
 
 pub record WorkedExamples : Type 0 where
-  pub rows : All Holds examples
+  pub rows : AllByRecursion Holds examples
   pub staircase : (laws : FieldLaws (gf 7)) → stairs 2 (before_by drl 2) (generators (gf 7) laws 2 triple) ≡ one 2 ∷ var 2 0 ∷ var 2 1 ∷ []
   pub product : (total bytes).mul 87 131 ≡ 193
   pub inverse : (total bytes).inv 2 ≡ Some 141

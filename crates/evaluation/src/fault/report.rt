@@ -1,7 +1,7 @@
 // What a fault reports: number, layer, line and place, as the program prints them.
 ghost use Rattle.std.specs.Prelude.{◌≡◌};
 ghost use Rattle.column.specs.Column.{Word};
-ghost use Rattle.std.specs.List.{AllByRecursion as All};
+ghost use Rattle.std.specs.List.{AllByRecursion};
 ghost use Rattle.evaluation.specs.Faults.{number_of, layer_at, line_of, place_of, report_of};
 
 use crate::fault::ProbeFault;
@@ -66,7 +66,7 @@ impl ProbeFault {
 
     pub fn report(self) -> [u32; 4]
         ensures value { result ≡ report_of self }
-        ensures words { All Word result }
+        ensures words { AllByRecursion Word result }
     {
         let number = self.number();
         [number, layer(number), self.line(), self.place()]
