@@ -1,4 +1,4 @@
--- Lists made and searched by tests: what any, build, joined, least and kept-by give.
+-- Lists made and searched by tests: what any, build, joined, least and filter give.
 use Rattle.std.proofs.Common.{◌≡◌, ℕ, zero, suc, ◌<◌, ◌≤◌, Bool, true, false, cond, List, [], ◌∷◌, ◌++◌, length, get_or, filter, sym, refl, ap, ◌∙◌, arith}
 use mathlib.Core.Bool.{false≢true}
 use Rattle.std.specs.List.{AllByRecursion}

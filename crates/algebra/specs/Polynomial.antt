@@ -3,7 +3,7 @@
 --   ev F p w              the sum of c × w a over the terms (c, a) of p: what p is under a linear functional with the values w
 --   indicator F n m a     one where a is m, and zero elsewhere
 --   coeff F n p m         the coefficient of m in p
---   _≈_ F n p q           p and q are the same polynomial: every coefficient agrees
+--   ◌≈◌ F n p q           p and q are the same polynomial: every coefficient agrees
 --   term_mul F n c m p    the term c m times p
 --   mul F n p q           the product; the sum is p ++ q
 --   combination D s v     the polynomial of the terms v i × s i with i below D

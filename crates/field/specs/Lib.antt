@@ -1,3 +1,4 @@
+-- First the definitions; from ByteLaws on the proofs that the fields name: the laws of bytes and of residues, and both carried to all words.
 pub mod Meaning
 pub mod Primes
 pub mod Residues

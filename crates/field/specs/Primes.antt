@@ -2,7 +2,7 @@
 --   primes     the list of them
 --   among n l  n is in the list l
 --   listed n   n is one of the primes
--- Used by: the invariant of Residue. That each is a prime is a computed test in the proofs.
+-- Used by: the invariant of Residue. That each is a prime is a computed test, in Primality.
 use Rattle.std.specs.Prelude.{ℕ, Bool, false, ◌||◌, List, [], ◌∷◌, ◌==◌}
 
 abbrev pub among : ℕ → List ℕ → Bool

@@ -1,2 +1,2 @@
--- Chapters: monomials by exponents, as products of variables; comparisons of numbers, of runs of numbers; the laws of DRL and LEX; what any order's laws give; renumbered orders.
+-- One chapter: what any order's laws give. The laws of DRL, LEX and renumbered orders are proved in specs/, where the orders name them.
 pub mod Products

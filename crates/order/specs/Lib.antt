@@ -1,3 +1,5 @@
+-- First the definitions; from OrderLaws on the proofs that the orders name: the laws of DRL and LEX, monomials by exponents, as products of variables, comparisons of numbers, of runs of
+-- numbers, and moved exponents.
 pub mod Monomials
 pub mod Laws
 pub mod Orders

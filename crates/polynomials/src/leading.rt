@@ -6,7 +6,7 @@ ghost use Rattle.order.specs.Monomials as def;
 ghost use Rattle.order.specs.Laws.{Comparison};
 ghost use Rattle.algebra.specs.Lists.{any};
 ghost use Rattle.algebra.specs.Records.{flat, before_by};
-ghost use Rattle.algebra.specs.Basis.{stairs as staircase-of};
+ghost use Rattle.algebra.specs.Basis.{stairs as staircase_of};
 ghost use Rattle.runs.specs.Job.{Term as JobTerm, new};
 ghost use Rattle.runs.specs.Enter.{Enters};
 ghost use Rattle.runs.specs.Generators.{generators};
@@ -139,7 +139,7 @@ impl Polynomials {
 
     // Whether each later term of each polynomial stands in the staircase.
     pub fn ask_inside(&self, stairs: &[Monomial]) -> Result<(), JobFault>
-        ensures { (m : FieldMeaning) (laws : FieldLaws m) (cmp : Comparison) (n : ℕ) → n ≤ def.variables → Enters m cmp (new n) (held self.now) → stairs.now ≡ map (flat n) (staircase-of n (before_by cmp n) (generators m laws n (held self.now))) → Asked 0 (inside_ask m laws cmp n (held self.now) ∷ []) result }
+        ensures { (m : FieldMeaning) (laws : FieldLaws m) (cmp : Comparison) (n : ℕ) → n ≤ def.variables → Enters m cmp (new n) (held self.now) → stairs.now ≡ map (flat n) (staircase_of n (before_by cmp n) (generators m laws n (held self.now))) → Asked 0 (inside_ask m laws cmp n (held self.now) ∷ []) result }
     {
         for i in 0..self.count() {
             if !rest_stands(stairs, self.polynomial(i)) {
