@@ -1,9 +1,10 @@
 -- What a field is, over the words that stand for its elements.
---   FieldMeaning     which words are elements, the words of zero and one, and the sum, product, opposite and inverse of words
---   FieldLaws m      the laws of a field, each for all elements
---   FieldTotal m     what the operations answer where a word is no element: zero, and no inverse
---   total m          the operations of m on elements, carried to all words as FieldTotal asks
---   OneInverse      an element has one inverse
+--   FieldMeaning          which words are elements, the words of zero and one, and the sum, product, opposite and inverse of words
+--   FieldLaws m           the laws of a field, each for all elements
+--   FieldTotal m          what the operations answer where a word is no element: zero, and no inverse
+--   total m               the operations of m on elements, carried to all words as FieldTotal asks
+--   nonzero_element m w   w is an element other than zero
+--   OneInverse            an element has one inverse
 -- Used by: the trait Field, and whatever is proved for every field.
 use Rattle.std.specs.Prelude.{◌≡◌, ℕ, Bool, false, cond, not, ◌&&◌, T, ◌≢◌, Some, None, Option, ◌==◌}
 
@@ -50,6 +51,9 @@ total m = record {
   neg = λ a. cond (m.elem a) (m.neg a) m.zero;
   inv = λ a. cond (m.elem a && not (a == m.zero)) (m.inv a) None;
 }
+
+abbrev pub nonzero_element : FieldMeaning → ℕ → Bool
+nonzero_element m w = m.elem w && not (w == m.zero)
 
 abbrev pub OneInverse : Type 0
 OneInverse = (m : FieldMeaning) → FieldLaws m → (a b c : ℕ) → T (m.elem a) → T (m.elem b) → T (m.elem c) → m.mul a b ≡ m.one → m.mul a c ≡ m.one → b ≡ c

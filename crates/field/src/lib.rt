@@ -4,7 +4,7 @@
 #![tactic(auto)]
 
 ghost use Rattle.std.specs.Prelude.{◌≡◌};
-ghost use Rattle.field.specs.Meaning.{FieldMeaning, FieldLaws, FieldTotal, OneInverse};
+ghost use Rattle.field.specs.Meaning.{FieldMeaning, FieldLaws, FieldTotal, OneInverse, nonzero_element};
 
 pub mod bytes;
 pub mod fault;
@@ -39,6 +39,13 @@ pub trait Field {
 
     fn inverse(&self, a: u32) -> Option<u32>
         ensures { result ≡ (meaning self.now).inv a };
+
+    // Whether `w` is an element other than zero.
+    final fn is_nonzero_element(&self, w: u32) -> bool
+        ensures { result ≡ nonzero_element (meaning self.now) w }
+    {
+        self.contains(w) && w != self.zero()
+    }
 
     ghost lawful: { (f : Self) → FieldLaws (meaning f) };
 

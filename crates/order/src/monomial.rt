@@ -4,7 +4,7 @@
 ghost use Rattle.std.specs.Prelude.{◌≡◌};
 ghost use Rattle.order.specs.Monomials as def;
 
-#[derive(Clone, Copy, PartialEq, Eq, Debug)]
+#[derive(Clone, Copy, PartialEq, Eq, Default, Debug)]
 pub struct Monomial {
     pub x1: u8,
     pub x2: u8,
@@ -18,15 +18,17 @@ impl Monomial {
     pub const LARGEST: u8 = 255;
 
     // The monomial 1.
+    pub const ONE: Monomial = Monomial {
+        x1: 0,
+        x2: 0,
+        x3: 0,
+        x4: 0,
+    };
+
     pub fn one() -> Monomial
         ensures { result ≡ def.one }
     {
-        Monomial {
-            x1: 0,
-            x2: 0,
-            x3: 0,
-            x4: 0,
-        }
+        Self::ONE
     }
 
     // 0 where `k` is no variable.
