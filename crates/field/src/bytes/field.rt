@@ -27,19 +27,27 @@ impl Field for ByteField {
     }
 
     fn add(&self, a: u32, b: u32) -> u32 {
-        if a < 256 && b < 256 { a ^ b } else { 0 }
+        if self.contains(a) && self.contains(b) {
+            a ^ b
+        } else {
+            0
+        }
     }
 
     fn mul(&self, a: u32, b: u32) -> u32 {
-        if a < 256 && b < 256 { times(a, b) } else { 0 }
+        if self.contains(a) && self.contains(b) {
+            times(a, b)
+        } else {
+            0
+        }
     }
 
     fn neg(&self, a: u32) -> u32 {
-        if a < 256 { a } else { 0 }
+        if self.contains(a) { a } else { 0 }
     }
 
     fn inverse(&self, a: u32) -> Option<u32> {
-        if a < 256 && a != 0 {
+        if self.contains(a) && a != 0 {
             Some(power(a))
         } else {
             None

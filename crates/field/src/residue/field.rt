@@ -29,27 +29,31 @@ impl Field for Residue {
     }
 
     fn add(&self, a: u32, b: u32) -> u32 {
-        if a < self.p && b < self.p {
-            ((a as u64 + b as u64) % self.p as u64) as u32
+        if self.contains(a) && self.contains(b) {
+            ((u64::from(a) + u64::from(b)) % u64::from(self.p)) as u32
         } else {
             0
         }
     }
 
     fn mul(&self, a: u32, b: u32) -> u32 {
-        if a < self.p && b < self.p {
-            ((a as u64 * b as u64) % self.p as u64) as u32
+        if self.contains(a) && self.contains(b) {
+            (u64::from(a) * u64::from(b) % u64::from(self.p)) as u32
         } else {
             0
         }
     }
 
     fn neg(&self, a: u32) -> u32 {
-        if a < self.p { (self.p - a) % self.p } else { 0 }
+        if self.contains(a) {
+            (self.p - a) % self.p
+        } else {
+            0
+        }
     }
 
     fn inverse(&self, a: u32) -> Option<u32> {
-        if a < self.p && a != 0 {
+        if self.contains(a) && a != 0 {
             Some(inverse_modulo(self.p, a))
         } else {
             None
@@ -67,6 +71,6 @@ fn inverse_modulo(p: u32, a: u32) -> u32
         1
     } else {
         let s = inverse_modulo(p, p % a);
-        ((p / a) as u64 * (p - s) as u64 % p as u64) as u32
+        (u64::from(p / a) * u64::from(p - s) % u64::from(p)) as u32
     }
 }

@@ -21,4 +21,5 @@ returns-then-a-eq1 t c =
 pub returns-else-a-eq1 : goal.returns-else-a-eq1
 returns-else-a-eq1 t c =
     let pos : 0 < c.args.p = omega arith in
+    rw (c.from.ensures, c.from-else-a-eq1.ensures, c.from-else-a-eq1-2.ensures)
     (mod-lt _ pos, step c.args.p c.args.a c.inverse_modulo-s.result pos (omega arith) c.inverse_modulo-s.ensures.1)

@@ -5,8 +5,8 @@ use Rattle.field.proofs.residue.field.ResidueField.mul.Goals as goal
 pub nonzero_rem-result : goal.nonzero_rem-result
 nonzero_rem-result c = let t = tested _ c.args.self.now.prime in omega arith
 
-pub overflow_cast-result-then-b-self-3 : goal.overflow_cast-result-then-b-self-3
-overflow_cast-result-then-b-self-3 c =
+pub overflow_cast-result : goal.overflow_cast-result
+overflow_cast-result c =
     let p = c.args.self.now.p in
     let t = tested p c.args.self.now.prime in
     let pos : 0 < p = omega arith in
