@@ -4,6 +4,7 @@ use Rattle.std.specs.declared.cmp.Ordering.TheVariants.{Less, Equal, Greater}
 use Rattle.std.specs.declared.cmp.Ordering.{Ordering}
 use Rattle.std.proofs.Common.{sym, ◌∙◌, ap, ap₂, inl, inr, arith}
 use Rattle.std.proofs.lemmas.Bool.Decides.{nat_tests}
+use Rattle.std.specs.Cmp.{then_flip}
 use Rattle.std.specs.Ordering.{ordering_reverse, ordering_then, nat_cmp}
 use Rattle.order.specs.Orders.{number}
 
@@ -22,9 +23,6 @@ number_less x y h = grind (arith, nat_tests)
 pub number_lt : (x y : ℕ) → x < y → number x y ≡ Less
 number_lt x y h = grind (arith, nat_tests)
 
-pub number_gt : (x y : ℕ) → y < x → number x y ≡ Greater
-number_gt x y h = grind (arith, nat_tests)
-
 pub number_cmp : (x y : ℕ) → number x y ≡ nat_cmp x y
 number_cmp x y = grind (arith, nat_tests)
 
@@ -33,11 +31,6 @@ number_exchanged x y = grind (arith, nat_tests)
 
 pub number_shifted : (d x y : ℕ) → number (d + x) (d + y) ≡ number x y
 number_shifted d x y = grind (arith, nat_tests)
-
-pub then_reversed : (a b : Ordering) → ordering_then (ordering_reverse a) (ordering_reverse b) ≡ ordering_reverse (ordering_then a b)
-then_reversed Less b = refl
-then_reversed Equal b = refl
-then_reversed Greater b = refl
 
 pub then_equal : (a b : Ordering) → ordering_then a b ≡ Equal → (a ≡ Equal) × (b ≡ Equal)
 then_equal Less b h = (h, absurd (grind arith))
@@ -75,7 +68,7 @@ module _ {A : Type 0} {c d : A → A → Ordering} (C : Ranking c) (D : Ranking 
   pub ranked_then : Ranking (λ x y. ordering_then (c x y) (d x y))
   ranked_then = record {
     self = λ x. ap₂ ordering_then (C.self x) (D.self x);
-    exchanged = λ x y. ap₂ ordering_then (C.exchanged x y) (D.exchanged x y) ∙ then_reversed (c x y) (d x y);
+    exchanged = λ x y. ap₂ ordering_then (C.exchanged x y) (D.exchanged x y) ∙ then_flip (c x y) (d x y);
     tied = λ x y z h. let t = then_equal (c x y) (d x y) h in ap₂ ordering_then (C.tied x y z t.0) (D.tied x y z t.1);
     transitive = λ x y z h g. go x y z (then_less (c x y) (d x y) h) (then_less (c y z) (d y z) g);
   }

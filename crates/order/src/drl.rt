@@ -3,7 +3,6 @@
 ghost use Rattle.order.specs.Orders.{drl};
 ghost use Rattle.order.specs.OrderLaws.{drl_laws};
 
-use crate::difference::at_lowest;
 use crate::{Monomial, Order};
 use std::cmp::Ordering;
 
@@ -16,10 +15,8 @@ impl Order for Drl {
     ghost lawful = { λ o. drl_laws };
 
     fn compare(&self, a: Monomial, b: Monomial) -> Ordering {
-        match a.degree().cmp(&b.degree()) {
-            Ordering::Less => Ordering::Less,
-            Ordering::Equal => at_lowest(b, a),
-            Ordering::Greater => Ordering::Greater,
-        }
+        a.degree()
+            .cmp(&b.degree())
+            .then(b.lowest_first().cmp(&a.lowest_first()))
     }
 }

@@ -2,6 +2,10 @@
 ghost use Rattle.std.specs.Prelude.{◌≡◌};
 ghost use Rattle.order.specs.Faults as def;
 
+const ORDER_LAYER: u32 = 2;
+
+const NO_PLACE: u32 = 0;
+
 #[derive(Clone, Copy, PartialEq, Eq, Debug)]
 pub enum OrderFault {
     NoRearrangement,
@@ -19,16 +23,12 @@ impl OrderFault {
     pub fn layer(self) -> u32
         ensures { result ≡ def.layer self }
     {
-        match self {
-            OrderFault::NoRearrangement => 2,
-        }
+        ORDER_LAYER
     }
 
     pub fn place(self) -> u32
         ensures { result ≡ def.place self }
     {
-        match self {
-            OrderFault::NoRearrangement => 0,
-        }
+        NO_PLACE
     }
 }

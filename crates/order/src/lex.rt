@@ -2,7 +2,6 @@
 ghost use Rattle.order.specs.Orders.{lex};
 ghost use Rattle.order.specs.OrderLaws.{lex_laws};
 
-use crate::difference::at_highest;
 use crate::{Monomial, Order};
 use std::cmp::Ordering;
 
@@ -15,6 +14,6 @@ impl Order for Lex {
     ghost lawful = { λ o. lex_laws };
 
     fn compare(&self, a: Monomial, b: Monomial) -> Ordering {
-        at_highest(a, b)
+        a.highest_first().cmp(&b.highest_first())
     }
 }

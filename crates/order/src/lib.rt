@@ -10,7 +10,6 @@ ghost use Rattle.order.specs.Monomials.{Small};
 
 use std::cmp::Ordering;
 
-mod difference;
 pub mod drl;
 pub mod fault;
 pub mod lex;

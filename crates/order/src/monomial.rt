@@ -1,7 +1,7 @@
 // Monomials: a record of exponents, and what is read from it. `x1` is the exponent of variable 1, the
 // smallest variable; methods take a variable by its index, counted from 0, so that `x1` has index 0.
 // Nothing but this file and `rearrangement` knows how many exponents there are.
-ghost use Rattle.std.specs.Prelude.{◌≡◌};
+ghost use Rattle.std.specs.Prelude.{◌≡◌, [], ◌∷◌};
 ghost use Rattle.order.specs.Monomials as def;
 
 #[derive(Clone, Copy, PartialEq, Eq, Default, Debug)]
@@ -44,6 +44,18 @@ impl Monomial {
         }
     }
 
+    pub(crate) fn lowest_first(self) -> [u8; Monomial::VARIABLES]
+        ensures { result ≡ self.x1 ∷ self.x2 ∷ self.x3 ∷ self.x4 ∷ [] }
+    {
+        [self.x1, self.x2, self.x3, self.x4]
+    }
+
+    pub(crate) fn highest_first(self) -> [u8; Monomial::VARIABLES]
+        ensures { result ≡ self.x4 ∷ self.x3 ∷ self.x2 ∷ self.x1 ∷ [] }
+    {
+        [self.x4, self.x3, self.x2, self.x1]
+    }
+
     // The same monomial where `k` is no variable.
     pub fn with_exponent(self, k: usize, e: u8) -> Monomial
         ensures { result ≡ def.with_exponent k e self }
@@ -62,7 +74,7 @@ impl Monomial {
         ensures value { result ≡ def.degree self }
         ensures small { def.Small self }
     {
-        self.x1 as u16 + self.x2 as u16 + self.x3 as u16 + self.x4 as u16
+        u16::from(self.x1) + u16::from(self.x2) + u16::from(self.x3) + u16::from(self.x4)
     }
 
     // Whether each exponent is at most that of `other`.

@@ -85,5 +85,5 @@ impl Rearrangement {
 fn in_range(place: u8) -> bool
     ensures { result ≡ def.in_range place }
 {
-    (1 <= place) & (place as usize <= Monomial::VARIABLES)
+    (1..=Monomial::VARIABLES).contains(&usize::from(place))
 }

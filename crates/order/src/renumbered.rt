@@ -14,6 +14,7 @@ pub struct Renumbered<O> {
     ghost ok: { T (rearranges rearrangement) },
 }
 
+// By hand: a derive refuses a struct with a type parameter and a ghost field.
 impl<O: Copy> Clone for Renumbered<O> {
     ghost is_clone = { λ x y. y ≡ x };
 
