@@ -81,20 +81,14 @@ impl Monomial {
     pub fn divides(self, other: Monomial) -> bool
         ensures { result ≡ def.divides self other }
     {
-        (self.x1 <= other.x1)
-            & (self.x2 <= other.x2)
-            & (self.x3 <= other.x3)
-            & (self.x4 <= other.x4)
+        (0..Self::VARIABLES).all(|k| self.exponent(k) <= other.exponent(k))
     }
 
     // Whether no variable but that of index `k` occurs: 1 is a power of each.
     pub fn is_power_of(self, k: usize) -> bool
         ensures { result ≡ def.power_of k self }
     {
-        ((k == 0) | (self.x1 == 0))
-            & ((k == 1) | (self.x2 == 0))
-            & ((k == 2) | (self.x3 == 0))
-            & ((k == 3) | (self.x4 == 0))
+        (0..Self::VARIABLES).all(|j| j == k || self.exponent(j) == 0)
     }
 
     // The product with a variable, where the exponent does not pass the largest.

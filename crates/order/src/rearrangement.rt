@@ -32,13 +32,7 @@ impl Rearrangement {
     pub fn is_rearrangement(self) -> bool
         ensures { result ≡ def.rearranges self }
     {
-        in_range(self.first)
-            & ((self.first != self.second) & in_range(self.second))
-            & (((self.first != self.third) & (self.second != self.third)) & in_range(self.third))
-            & (((self.first != self.fourth)
-                & (self.second != self.fourth)
-                & (self.third != self.fourth))
-                & in_range(self.fourth))
+        (0..Monomial::VARIABLES).all(|k| self.is_fresh(k) && in_range(self.place(k)))
     }
 
     // The monomial with each exponent at the place that is named for it.
@@ -64,21 +58,37 @@ impl Rearrangement {
         }
     }
 
+    // The place of the variable of index `k`; 0 where `k` is no variable.
+    fn place(self, k: usize) -> u8
+        ensures { result ≡ def.place self k }
+    {
+        match k {
+            0 => self.first,
+            1 => self.second,
+            2 => self.third,
+            3 => self.fourth,
+            _ => 0,
+        }
+    }
+
+    // Whether no variable before that of index `k` has its place.
+    fn is_fresh(self, k: usize) -> bool
+        ensures { result ≡ def.fresh self k }
+    {
+        (0..k).all(|j| self.place(j) != self.place(k))
+    }
+
     // The exponent that goes to a place.
     fn arriving(self, m: Monomial, place: u8) -> u8
         ensures { result ≡ def.arriving variables self m place }
     {
-        if self.fourth == place {
-            m.x4
-        } else if self.third == place {
-            m.x3
-        } else if self.second == place {
-            m.x2
-        } else if self.first == place {
-            m.x1
-        } else {
-            0
-        }
+        (0..Monomial::VARIABLES).fold(0, |e, k| {
+            if self.place(k) == place {
+                m.exponent(k)
+            } else {
+                e
+            }
+        })
     }
 }
 
