@@ -1,5 +1,5 @@
 -- A list in which each monomial is less than the one before it.
-use Rattle.std.proofs.Common.{◌≡◌, ℕ, zero, suc, ◌-◌, ◌<◌, Bool, true, false, cond, not, ◌&&◌, ltb, List, length, Some, None, Option, Ordering, Less, sym, refl, ap, ◌∙◌, subst, ap₂, arith}
+use Rattle.std.proofs.Common.{◌≡◌, ℕ, zero, suc, ◌-◌, ◌<◌, ◌≤◌, Bool, true, false, cond, not, ◌&&◌, ltb, List, length, Some, None, Option, MatchOption, Ordering, Less, sym, refl, ap, ◌∙◌, subst, ap₂, arith}
 use native.Mathlib.Decide.{ℕ_discrete, dec_lt}
 use Rattle.std.proofs.lemmas.Bool.Decides.{nat_tests}
 use Rattle.std.specs.Ordering.{is_lt}
@@ -46,19 +46,20 @@ module _ (cmp : Comparison) (l : List Monomial) where
   unfolding rises
   rises_so k h d = grind (arith, nat_tests)
 
-  pub unfalling_none : ((k : ℕ) → k < length l → Fallen k) → unfalling cmp l ≡ None
+  unfalling_none : ((k : ℕ) → k < length l → Fallen k) → unfalling cmp l ≡ None
   unfolding rises
   unfalling_none h = first_none (length l) rises (λ k q. fallen_so k (h k q))
 
-  pub unfalling_at : (i : ℕ) → 0 < i → i < length l → ((k : ℕ) → k < i → Fallen k) → is_lt (cmp (listed l i) (listed l (i - 1))) ≡ false → unfalling cmp l ≡ Some i
+  unfalling_at : (i : ℕ) → 0 < i → i < length l → ((k : ℕ) → k < i → Fallen k) → is_lt (cmp (listed l i) (listed l (i - 1))) ≡ false → unfalling cmp l ≡ Some i
   unfolding rises
   unfalling_at i p q h d = first_at (length l) i rises q (λ k r. fallen_so k (h k r)) (rises_so i p d)
 
-  pub fallen_none : (k : ℕ) → k < 1 → Fallen k
-  fallen_none k h = record { small = λ p. absurd (omega arith); less = λ p. absurd (omega arith) }
+  fallen_from : (n : ℕ) → ((k : ℕ) → 1 ≤ k → k < n → Fallen k) → (k : ℕ) → k < n → Fallen k
+  fallen_from n h zero q = record { small = λ p. absurd (omega arith); less = λ p. absurd (omega arith) }
+  fallen_from n h (suc k) q = h (suc k) (omega arith) q
 
   -- by transitivity
-  pub falls_so : OrderLaws cmp → ((k : ℕ) → k < length l → Fallen k) → Falling cmp (listed l) (length l)
+  falls_so : OrderLaws cmp → ((k : ℕ) → k < length l → Fallen k) → Falling cmp (listed l) (length l)
   falls_so L h i j p q = falls_throughout cmp L (listed l) (length l) small next i j p q
     where
       at : (k : ℕ) → Dec (0 < k) → k < length l → Small (listed l k)
@@ -70,3 +71,16 @@ module _ (cmp : Comparison) (l : List Monomial) where
 
       next : (k : ℕ) → suc k < length l → cmp (listed l (suc k)) (listed l k) ≡ Less
       next k r = subst (λ (m : ℕ). cmp (listed l (suc k)) (listed l m) ≡ Less) (let e : suc k - 1 ≡ k = omega arith in e) (is_less _ ((h (suc k) r).less (omega arith)))
+
+  -- what a search from 1 on finds: the first index that does not fall, or that all do
+  abbrev pub Found : Option ℕ → Type 0
+  Found r = MatchOption r ((k : ℕ) → 1 ≤ k → k < length l → Fallen k)
+      (λ i. (1 ≤ i) × (i < length l) × (is_lt (cmp (listed l i) (listed l (i - 1))) ≡ false) × ((k : ℕ) → 1 ≤ k → k < i → Fallen k))
+
+  pub found_first : (r : Option ℕ) → Found r → r ≡ unfalling cmp l
+  found_first None h = sym (unfalling_none (fallen_from (length l) h))
+  found_first (Some i) t = sym (unfalling_at i t.0 t.1 (fallen_from i t.3) t.2)
+
+  pub none_falls : OrderLaws cmp → (r : Option ℕ) → Found r → r ≡ None → Falling cmp (listed l) (length l)
+  none_falls L None h e = falls_so L (fallen_from (length l) h)
+  none_falls L (Some i) t e = absurd (grind arith)

@@ -12,10 +12,5 @@ pub fn first_not_falling<O: Order>(order: &O, list: &[Monomial]) -> Option<usize
     ensures first { result ≡ unfalling (O.Order.meaning order.now) list.now }
     ensures else_falling { result ≡ None → Falling (O.Order.meaning order.now) (listed list.now) (length list.now) }
 {
-    for i in 1..list.len() {
-        if !order.compare(list[i], list[i - 1]).is_lt() {
-            return Some(i);
-        }
-    }
-    None
+    (1..list.len()).find(|&i| !order.compare(list[i], list[i - 1]).is_lt())
 }
