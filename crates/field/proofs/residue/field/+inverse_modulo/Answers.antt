@@ -1,4 +1,4 @@
-use Rattle.std.proofs.Common.{◌≡◌, ◌*◌, ◌%◌, ◌<◌, ap, ◌∙◌, mod-lt, mod-eq_of_lt, arith}
+use Rattle.std.proofs.Common.{◌%◌, ◌<◌, mod-lt, arith}
 use Rattle.field.specs.Primality.{tested, no_divisor}
 use Rattle.field.specs.ResidueInverse.{step}
 use Rattle.field.proofs.residue.field.+inverse_modulo.Goals as goal
@@ -11,12 +11,6 @@ inverse_modulo-s-requires t c =
     let pos : 0 < p % a = no_divisor p prime a (omega arith) (omega arith) in
     let low : p % a < a = mod-lt p (omega arith) in
     (omega arith, (c.requires.prime, (pos, omega arith)))
-
-pub returns-then-a-eq1 : goal.returns-then-a-eq1
-returns-then-a-eq1 t c =
-    let e : c.args.a * 1 ≡ 1 = omega arith in
-    let k : 1 < c.args.p = omega arith in
-    (k, ap (λ x. x % c.args.p) e ∙ mod-eq_of_lt k)
 
 pub returns-else-a-eq1 : goal.returns-else-a-eq1
 returns-else-a-eq1 t c =

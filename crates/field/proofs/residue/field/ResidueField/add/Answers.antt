@@ -2,9 +2,6 @@ use Rattle.std.proofs.Common.{◌+◌, ◌<◌, mod-lt, arith}
 use Rattle.field.specs.Primality.{tested}
 use Rattle.field.proofs.residue.field.ResidueField.add.Goals as goal
 
-pub nonzero_rem-result : goal.nonzero_rem-result
-nonzero_rem-result c = let t = tested _ c.args.self.now.prime in omega arith
-
 pub overflow_cast-result : goal.overflow_cast-result
 overflow_cast-result c =
     let p = c.args.self.now.p in
