@@ -32,6 +32,7 @@ impl Monomial {
     }
 
     // 0 where `k` is no variable.
+    #[tactic(auto, unfolding(crate::specs::Monomials::exponent))]
     pub fn exponent(self, k: usize) -> u8
         ensures { result ≡ def.exponent self k }
     {
@@ -57,6 +58,7 @@ impl Monomial {
     }
 
     // The same monomial where `k` is no variable.
+    #[tactic(auto, using(crate::specs::Exponents::with_past), unfolding(crate::specs::Monomials::with_exponent, crate::specs::Monomials::monomial, crate::specs::Monomials::exponent))]
     pub fn with_exponent(self, k: usize, e: u8) -> Monomial
         ensures { result ≡ def.with_exponent k e self }
     {
@@ -92,6 +94,7 @@ impl Monomial {
     }
 
     // The product with a variable, where the exponent does not pass the largest.
+    #[tactic(auto, using(crate::specs::Exponents::raise_with), unfolding(crate::specs::Monomials::raised))]
     pub fn raised(self, k: usize) -> Option<Monomial>
         ensures { result ≡ def.raised k self }
     {
@@ -104,6 +107,7 @@ impl Monomial {
     }
 
     // The quotient by a variable, where it divides.
+    #[tactic(auto, using(crate::specs::Exponents::over_with, crate::specs::Exponents::held_variable), unfolding(crate::specs::Monomials::lowered))]
     pub fn lowered(self, k: usize) -> Option<Monomial>
         ensures { result ≡ def.lowered k self }
     {

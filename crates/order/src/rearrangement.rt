@@ -16,6 +16,7 @@ pub struct Rearrangement {
 
 impl Rearrangement {
     // Variables 1 to `n` in reverse, and the rest stay. None where `n` is not 1 to 4.
+    #[tactic(auto, unfolding(crate::specs::Rearrangements::reversal, crate::specs::Rearrangements::rearrangement))]
     pub fn reversal(n: u8) -> Option<Rearrangement>
         ensures { result ≡ def.reversal n }
     {
@@ -59,6 +60,7 @@ impl Rearrangement {
     }
 
     // The place of the variable of index `k`; 0 where `k` is no variable.
+    #[tactic(auto, unfolding(crate::specs::Rearrangements::place))]
     fn place(self, k: usize) -> u8
         ensures { result ≡ def.place self k }
     {
