@@ -13,6 +13,7 @@ impl Order for Lex {
 
     ghost lawful = { λ o. lex_laws };
 
+    #[tactic(auto, using(crate::specs::Exponents::small_fields))]
     fn compare(&self, a: Monomial, b: Monomial) -> Ordering {
         a.highest_first().cmp(&b.highest_first())
     }

@@ -25,6 +25,7 @@ impl Monomial {
         x4: 0,
     };
 
+    #[tactic(auto, unfolding(crate::specs::Monomials::one, crate::specs::Monomials::monomial))]
     pub fn one() -> Monomial
         ensures { result ≡ def.one }
     {
@@ -72,6 +73,7 @@ impl Monomial {
     }
 
     // The sum of the exponents.
+    #[tactic(auto, using(crate::specs::Exponents::small_fields), unfolding(crate::specs::Monomials::degree, crate::specs::Monomials::exponent))]
     pub fn degree(self) -> u16
         ensures value { result ≡ def.degree self }
         ensures small { def.Small self }

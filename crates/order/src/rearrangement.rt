@@ -37,6 +37,7 @@ impl Rearrangement {
     }
 
     // The monomial with each exponent at the place that is named for it.
+    #[tactic(auto, unfolding(crate::specs::Rearrangements::moved, crate::specs::Monomials::monomial))]
     pub fn moved(self, m: Monomial) -> Monomial
         ensures { result ≡ def.moved self m }
     {

@@ -26,6 +26,7 @@ impl<O: Order> Order for Renumbered<O> {
 
     ghost lawful = { λ o. renumbered_laws o.rearrangement o.ok _ (O.Order.lawful o.below) };
 
+    #[tactic(auto, using(crate::specs::Exponents::small_fields))]
     fn compare(&self, a: Monomial, b: Monomial) -> Ordering {
         self.below
             .compare(self.rearrangement.moved(a), self.rearrangement.moved(b))
