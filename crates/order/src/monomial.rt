@@ -46,12 +46,14 @@ impl Monomial {
         }
     }
 
+    // The exponents, that of the lowest variable first.
     pub(crate) fn lowest_first(self) -> [u8; Monomial::VARIABLES]
         ensures { result ≡ self.x1 ∷ self.x2 ∷ self.x3 ∷ self.x4 ∷ [] }
     {
         [self.x1, self.x2, self.x3, self.x4]
     }
 
+    // The exponents, that of the highest variable first.
     pub(crate) fn highest_first(self) -> [u8; Monomial::VARIABLES]
         ensures { result ≡ self.x4 ∷ self.x3 ∷ self.x2 ∷ self.x1 ∷ [] }
     {
