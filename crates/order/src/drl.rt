@@ -17,6 +17,6 @@ impl Order for Drl {
     fn compare(&self, a: Monomial, b: Monomial) -> Ordering {
         a.degree()
             .cmp(&b.degree())
-            .then(b.lowest_first().cmp(&a.lowest_first()))
+            .then_with(|| b.lowest_first().cmp(&a.lowest_first()))
     }
 }
