@@ -3,3 +3,4 @@ pub mod Front
 pub mod Laws
 pub mod Line
 pub mod Place
+pub mod Walk

@@ -5,6 +5,8 @@
 pub mod laws;
 mod line;
 mod number;
+mod place;
 
 pub use line::{LineFault, read_line, write_line};
 pub use number::{read_column, write_column};
+pub use place::Place;

@@ -1,6 +1,6 @@
 // A line: columns, then byte 10.
 // Reads a line into words that the caller lends, and writes one into lent bytes; a refused call leaves what was lent as it was.
-ghost use Rattle.std.specs.Prelude.{◌≡◌, ◌+◌, ◌*◌, ◌≤◌, true, length, drop, nat_le};
+ghost use Rattle.std.specs.Prelude.{◌≡◌, ◌+◌, ◌*◌, ◌≤◌, true, length, drop, nat_le, IfOk};
 ghost use Rattle.column.specs.Line.{columns, line, line_length, before_newline, exact, numbers, values};
 ghost use Rattle.column.specs.Line.{after_line, taken_words, LineTaken, fault_number};
 ghost use Rattle.column.specs.Place.{after, placed, put};
@@ -85,6 +85,7 @@ pub fn read_line(bytes: &[u8], at: usize, words: &mut [u32]) -> Result<usize, Li
     ensures place_after { result ≡ after_line bytes.now at (length words.old) }
     ensures words_taken { words.new ≡ taken_words bytes.now at words.old }
     ensures exact { LineTaken bytes.now at words.old words.new result }
+    ensures inside { IfOk result (λ place. place ≤ length bytes.now) }
 {
     let count = words.len();
     if !ends_after(bytes, at, count) {
