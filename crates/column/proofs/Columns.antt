@@ -11,8 +11,6 @@ use Rattle.std.proofs.lemmas.Str.Parse.{IsNumeralModel, numerals_by_fold, tells_
 use Rattle.std.proofs.lemmas.Bool.{and_parts, and_from, both_ways, leb-true, le-leb}
 use Rattle.column.specs.Column.{Word, column, Reads, shown_after, shown, reading}
 use Rattle.column.specs.Front.{front, found}
-use Rattle.column.specs.declared.number.Front.{Front}
-use Rattle.column.specs.declared.number.Front.TheVariants.{Blank, Number, Broken}
 use Rattle.column.proofs.Fronts.{front_from_digits, digits_from_front}
 
 -- at most ten digits, and the blanks that are left
@@ -34,11 +32,11 @@ column_from_digits bs k w n e =
     let m : k ≡ 11 - length (decimal w) = omega arith in
     e ∙ ap (λ j. replicate j 32 ++ decimal w) m
 
-pub front_column : (w : ℕ) → Word w → front (column w) ≡ Number w
+pub front_column : (w : ℕ) → Word w → front (column w) ≡ Some (Some w)
 unfolding column
 front_column w h = front_from_digits (11 - length (decimal w)) w h
 
-same_number : (v w : ℕ) → Number v ≡ Number w → v ≡ w
+same_number : (v w : ℕ) → Some (Some v) ≡ Some (Some w) → v ≡ w
 same_number v w e = cc
 
 pub columns_differ : (v w : ℕ) → Word v → Word w → column v ≡ column w → v ≡ w
@@ -103,14 +101,14 @@ column_from_reading bs w e = subst (λ o. Reads bs o) e (reading_exact bs)
 pub reads_other_length : (bs : List ℕ) → (length bs ≡ 11 → ⊥) → Reads bs None
 reads_other_length bs n = λ w h is. n (ap length is ∙ column_length w h)
 
-reads_found : (bs : List ℕ) (f : Front) → length bs ≡ 11 → front bs ≡ f → Reads bs (found f)
-reads_found bs Blank n e = λ w h is.
-    let z : Blank ≡ Number w = sym e ∙ ap front is ∙ front_column w h in
+reads_found : (bs : List ℕ) (f : Option (Option ℕ)) → length bs ≡ 11 → front bs ≡ f → Reads bs (found f)
+reads_found bs (Some None) n e = λ w h is.
+    let z : Some None ≡ Some (Some w) = sym e ∙ ap front is ∙ front_column w h in
     let q : ◌≡◌ {A = ℕ} 0 1 = cc in
     omega arith
-reads_found bs (Number v) n e = let d = digits_from_front bs v e in (column_from_digits bs d.1.0 v n d.1.1, d.0)
-reads_found bs Broken n e = λ w h is.
-    let z : Broken ≡ Number w = sym e ∙ ap front is ∙ front_column w h in
+reads_found bs (Some (Some v)) n e = let d = digits_from_front bs v e in (column_from_digits bs d.1.0 v n d.1.1, d.0)
+reads_found bs None n e = λ w h is.
+    let z : None ≡ Some (Some w) = sym e ∙ ap front is ∙ front_column w h in
     let q : ◌≡◌ {A = ℕ} 0 1 = cc in
     omega arith
 

@@ -2,62 +2,41 @@
 // Reads the bytes that it is given, and writes only the eleven bytes of a column.
 ghost use Rattle.std.specs.Prelude.{◌≡◌, ◌+◌, ◌≤◌, length, drop, decimal, nat_le};
 ghost use Rattle.column.specs.Column.{column, reading, Reads};
-ghost use Rattle.column.specs.Front.{first, longer, then, found};
+ghost use Rattle.column.specs.Front.{digit, longer, step};
 ghost use Rattle.column.specs.Place.{after, placed, put};
 
 pub(crate) const WIDTH: usize = 11;
 
-// What the bytes of a column before some place come to.
-#[derive(Clone, Copy)]
-enum Front {
-    Blank,
-    Number(u32),
-    Broken,
-}
-
-// The front that one byte makes.
-fn first_byte(byte: u8) -> Front
-    ensures { result ≡ first byte }
+// The digit that a byte is.
+fn digit(byte: u8) -> Option<u32>
+    ensures { result ≡ digit byte }
 {
     match byte {
-        b' ' => Front::Blank,
-        b'0'..=b'9' => Front::Number(u32::from(byte - b'0')),
-        _ => Front::Broken,
+        b'0'..=b'9' => Some(u32::from(byte - b'0')),
+        _ => None,
     }
 }
 
-// The front that one more byte makes of the digits of a number.
-fn next_digit(number: u32, byte: u8) -> Front
+// The number that one more digit makes of a number that was read; none goes on after a zero.
+fn next_digit(number: u32, byte: u8) -> Option<u32>
     ensures { result ≡ longer number byte }
 {
-    if byte < b'0' || byte > b'9' || number == 0 {
-        return Front::Broken;
+    let digit = digit(byte)?;
+    if number == 0 {
+        return None;
     }
-    let next = u64::from(number) * 10 + u64::from(byte - b'0');
-    if next > u64::from(u32::MAX) {
-        return Front::Broken;
-    }
-    Front::Number(next as u32)
+    number.checked_mul(10)?.checked_add(digit)
 }
 
-impl Front {
-    fn and_byte(self, byte: u8) -> Front
-        ensures { result ≡ then self byte }
-    {
-        match self {
-            Front::Blank => first_byte(byte),
-            Front::Number(number) => next_digit(number, byte),
-            Front::Broken => Front::Broken,
-        }
-    }
-
-    fn value(self) -> Option<u32>
-        ensures { result ≡ found self }
-    {
-        match self {
-            Front::Number(number) => Some(number),
-            _ => None,
-        }
+// What the bytes of a column come to with one more: the number, None inside while they are blanks;
+// None where no column goes on so.
+fn and_byte(front: Option<u32>, byte: u8) -> Option<Option<u32>>
+    ensures { result ≡ step front byte }
+{
+    match front {
+        None if byte == b' ' => Some(None),
+        None => Some(Some(digit(byte)?)),
+        Some(number) => Some(Some(next_digit(number, byte)?)),
     }
 }
 
@@ -69,11 +48,11 @@ pub fn read_column(bytes: &[u8]) -> Option<u32>
     if bytes.len() != WIDTH {
         return None;
     }
-    let mut front = Front::Blank;
+    let mut front = None;
     for byte in bytes {
-        front = front.and_byte(*byte);
+        front = and_byte(front, *byte)?;
     }
-    front.value()
+    front
 }
 
 // Writes the digits of a number at the end of a column's bytes, and answers the place of the first.

@@ -1,6 +1,6 @@
-use Rattle.std.proofs.Common.{◌≡◌, take}
+use Rattle.std.proofs.Common.{◌≡◌, take, Some}
 use Rattle.column.specs.Front.{front}
 use Rattle.column.proofs.number.read_column.Given as goal
 
 abbrev pub invariant-loop-byte : goal.invariant-loop-byte
-invariant-loop-byte l = l.front ≡ front (take l.byte-index l.bytes)
+invariant-loop-byte l = front (take l.byte-index l.bytes) ≡ Some l.front
