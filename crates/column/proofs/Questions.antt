@@ -1,20 +1,27 @@
 -- The two questions of reading a line, in order, and the answer that each way gives.
 -- Used by: ends_after, read_line.
-use Rattle.std.proofs.Common.{◌≡◌, ℕ, ◌+◌, ◌*◌, ◌<◌, ◌≤◌, true, false, cond, eqb, List, length, drop, Ok, Err, sym, ap, ◌∙◌, arith, length-drop}
+use Rattle.std.proofs.Common.{◌≡◌, ℕ, ◌+◌, ◌*◌, ◌<◌, ◌≤◌, Bool, true, false, not, cond, ◌&&◌, eqb, ltb, List, length, drop, Some, None, position, Ok, Err, refl, sym, ap, ◌∙◌, arith, length-drop}
+use Rattle.std.specs.List.{prefix_len}
+use Rattle.std.specs.Option.{option_eq}
 use Rattle.std.specs.Result as results
 use Rattle.std.proofs.lemmas.Bool.Decides.{nat_tests}
+use Rattle.std.proofs.lemmas.List.Sums.{prefix_len-le-length}
 use Rattle.column.specs.Line.{line_length, before_newline, exact, numbers, values, reading_line, after_line, taken_words}
 use Rattle.column.specs.declared.line.LineFault.{LineFault}
 use Rattle.column.specs.declared.line.LineFault.TheVariants.{WrongLength, NotANumber}
 
-module _ (bytes : List ℕ) (at c : ℕ) where
-  pub exact_with_room : (place : ℕ) → at + line_length c ≤ length bytes → place ≡ at + before_newline (drop at bytes) → eqb place (at + 11 * c) ≡ exact c (drop at bytes)
-  unfolding exact
-  exact_with_room place h e = let l = length-drop at bytes in grind (arith, nat_tests)
+compared : (t : Bool) (p n l : ℕ) → ltb p l ≡ t → p ≤ l → option_eq eqb (cond t (Some p) None) (Some n) ≡ eqb p n && ltb n l
+compared true p n l e h = grind (arith, nat_tests)
+compared false p n l e h = grind (arith, nat_tests)
 
-  pub exact_without_room : length bytes < at + line_length c → false ≡ exact c (drop at bytes)
-  unfolding exact
-  exact_without_room h = let l = length-drop at bytes in grind (arith, nat_tests)
+-- where the first byte 10 is found decides whether a line of c columns ends there
+pub ends_when : (c : ℕ) (bs : List ℕ) → option_eq eqb (position (λ b. eqb b 10) bs) (Some (11 * c)) ≡ exact c bs
+unfolding exact before_newline
+ends_when c bs = compared _ (prefix_len (λ b. not (eqb b 10)) bs) (11 * c) (length bs) refl (prefix_len-le-length (λ b. not (eqb b 10)) bs)
+
+pub exact_without_room : (bytes : List ℕ) (at c : ℕ) → length bytes < at + line_length c → false ≡ exact c (drop at bytes)
+unfolding exact
+exact_without_room bytes at c h = let l = length-drop at bytes in grind (arith, nat_tests)
 
 -- the answer by the two tests
 

@@ -1,28 +1,12 @@
 -- The loops over a line: one step of each, over the bytes that are left.
--- Used by: newline_from, all_numbers, take_words, put_columns.
-use Rattle.std.proofs.Common.{◌≡◌, ℕ, suc, ◌+◌, ◌-◌, ◌*◌, ◌<◌, ◌≤◌, true, false, not, ◌&&◌, eqb, List, [], ◌∷◌, ◌++◌, length, get_or, take, drop, set, is_some, Option, unwrap_or, sym, refl, ap, ◌∙◌, arith, length-append}
+-- Used by: all_numbers, take_words, put_columns.
+use Rattle.std.proofs.Common.{◌≡◌, ℕ, suc, ◌+◌, ◌-◌, ◌*◌, ◌<◌, ◌≤◌, true, false, ◌&&◌, List, [], ◌∷◌, ◌++◌, length, get_or, take, drop, set, is_some, Option, unwrap_or, sym, refl, ap, ◌∙◌, arith, length-append}
 use Rattle.std.proofs.lemmas.List.{append_assoc, drop-drop, flat_map_more, take_all, take_more, take_more_set}
-use Rattle.std.proofs.lemmas.List.Sums.{prefix_len-drop_yes, prefix_len-drop_no, prefix_len-drop_all}
-use Rattle.std.proofs.lemmas.Bool.{ne_eqb, eq-eqb}
 use Rattle.column.specs.Column.{Word, column, reading}
-use Rattle.column.specs.Line.{columns, before_newline, numbers, values}
+use Rattle.column.specs.Line.{columns, numbers, values}
 use Rattle.column.specs.Place.{put}
 use Rattle.column.proofs.Columns.{column_length}
 use Rattle.column.proofs.Places.{put_none, put_put}
-
--- towards the first byte 10
-
-pub newline_further : (bytes : List ℕ) (i : ℕ) → i < length bytes → (get_or bytes i 0 ≡ 10 → ⊥) → before_newline (drop i bytes) ≡ 1 + before_newline (drop (i + 1) bytes)
-unfolding before_newline
-newline_further bytes i h n = prefix_len-drop_yes (λ b. not (eqb b 10)) bytes i 0 h (ap not (ne_eqb (get_or bytes i 0) 10 n))
-
-pub newline_here : (bytes : List ℕ) (i : ℕ) → i < length bytes → get_or bytes i 0 ≡ 10 → before_newline (drop i bytes) ≡ 0
-unfolding before_newline
-newline_here bytes i h e = prefix_len-drop_no (λ b. not (eqb b 10)) bytes i 0 h (ap not (eq-eqb (get_or bytes i 0) 10 e))
-
-pub newline_nowhere : (bytes : List ℕ) (i : ℕ) → length bytes ≤ i → before_newline (drop i bytes) ≡ 0
-unfolding before_newline
-newline_nowhere bytes i h = prefix_len-drop_all (λ b. not (eqb b 10)) bytes i h
 
 -- from column to column
 

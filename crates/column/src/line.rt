@@ -1,6 +1,6 @@
 // A line: columns, then byte 10.
 // Reads a line into words that the caller lends, and writes one into lent bytes; a refused call leaves what was lent as it was.
-ghost use Rattle.std.specs.Prelude.{◌≡◌, ◌+◌, ◌*◌, ◌≤◌, true, length, drop, nat_le, IfOk};
+ghost use Rattle.std.specs.Prelude.{◌≡◌, ◌+◌, ◌*◌, ◌≤◌, true, length, drop, nat_le, ◌==◌, position, IfOk};
 ghost use Rattle.column.specs.Line.{columns, line, line_length, before_newline, exact, numbers, values};
 ghost use Rattle.column.specs.Line.{after_line, taken_words, LineTaken, fault_number};
 ghost use Rattle.column.specs.Place.{after, placed, put};
@@ -35,16 +35,11 @@ fn line_fits(out: &[u8], at: usize, count: usize) -> bool
     at < out.len() && count <= (out.len() - at - 1) / WIDTH
 }
 
-// The place of the first byte 10 from a place on, or the end where there is none.
-fn newline_from(bytes: &[u8], at: usize) -> usize
-    requires { at ≤ length bytes.now }
-    ensures { result ≡ at + before_newline (drop at bytes.now) }
+// How many bytes stand before the first byte 10, if there is one.
+fn first_newline(bytes: &[u8]) -> Option<usize>
+    ensures { result ≡ position (λ b. b == 10) bytes.now }
 {
-    let mut place = at;
-    while place < bytes.len() && bytes[place] != NEWLINE {
-        place += 1;
-    }
-    place
+    bytes.iter().position(|byte| *byte == NEWLINE)
 }
 
 // Whether the first byte 10 from a place on stands right after so many columns.
@@ -52,7 +47,7 @@ fn ends_after(bytes: &[u8], at: usize, count: usize) -> bool
     ensures test { result ≡ exact count (drop at bytes.now) }
     ensures room { result ≡ true → at + line_length count ≤ length bytes.now }
 {
-    line_fits(bytes, at, count) && newline_from(bytes, at) == at + WIDTH * count
+    line_fits(bytes, at, count) && first_newline(&bytes[at..]) == Some(WIDTH * count)
 }
 
 // Whether each of the columns from a place on is a number.
