@@ -1,19 +1,37 @@
 -- The questions of a polynomial, put together from the answers to each.
-use Rattle.std.proofs.Common.{◌≡◌, ℕ, suc, ◌+◌, ◌-◌, ◌<◌, ◌≤◌, Bool, false, cond, eqb, List, length, get_or, drop, Some, None, Option, sym, refl, ap, ◌∙◌, ap₂, arith}
+use Rattle.std.proofs.Common.{◌≡◌, ℕ, suc, ◌+◌, ◌-◌, ◌<◌, ◌≤◌, Bool, false, cond, not, eqb, leb, List, map, get_or, drop, Some, None, position, Option, sym, refl, ap, ◌∙◌, ap₂, arith}
+use Rattle.std.specs.Option.{option_map}
+use Rattle.std.specs.List.{list_all}
 use Rattle.std.proofs.lemmas.Bool.{ne_eqb}
 use Rattle.field.specs.Meaning.{FieldMeaning}
 use Rattle.evaluation.specs.declared.fault.ProbeFault.{ProbeFault}
 use Rattle.evaluation.specs.declared.fault.ProbeFault.TheVariants.{NoTerm, Coefficient, Exponent}
-use Rattle.evaluation.specs.declared.place.Place.{Place}
+use Rattle.column.specs.declared.place.Place.{Place}
 use Rattle.evaluation.specs.Evaluation.{Term}
-use Rattle.evaluation.specs.Basis.{next, terms, after_lines, term_count, polynomial, after, after_all, lines_all}
-use Rattle.evaluation.specs.Answer.{Refusal, then, at_place, first_no, coefficient_stands, exponents_stand, asks_line, asks_lines, asks_terms, asks_polynomial, asks_polynomials}
-use Rattle.evaluation.specs.Steps.{Counted, LinePassed, LinesPassed, PolynomialPassed, PolynomialsPassed, WalkedPolynomials}
+use Rattle.evaluation.specs.Basis.{words, next, terms, after_lines, term_count, polynomial, after, after_all, lines_all}
+use Rattle.evaluation.specs.Answer.{Refusal, then, at_place, coefficient_stands, exponents_stand, asks_line, asks_lines, asks_terms, asks_polynomial, asks_polynomials}
+use Rattle.evaluation.specs.Padded.{padded}
+use Rattle.evaluation.proofs.Padding.{coefficient_padded}
+use Rattle.evaluation.proofs.FirstNo.{first_no_is, position_padded, exponents_padded}
+use Rattle.evaluation.specs.Steps.{LinePassed, LinesPassed, PolynomialPassed, PolynomialsPassed, WalkedPolynomials}
 
-pub terms_asked : (m : FieldMeaning) (n l : ℕ) (ts : List Term) (a b : Option ℕ) → a ≡ first_no (coefficient_stands m) ts → b ≡ first_no (exponents_stand n) ts
-    → then (at_place (Coefficient l) a) (at_place (Exponent l) b) ≡ asks_terms m n ts l
+-- the two searches over the padded terms, in their order
+pub terms_asked : (m : FieldMeaning) (n k l : ℕ) (bs : List ℕ) (a b : Option ℕ)
+    → a ≡ position (λ t. not (coefficient_stands m t)) (map (padded (n + 1)) (terms (n + 1) k bs))
+    → b ≡ position (λ t. not (list_all (λ e. leb e 48) (drop 1 t))) (map (padded (n + 1)) (terms (n + 1) k bs))
+    → then (at_place (Coefficient l) (option_map (λ j. j + 1) a)) (at_place (Exponent l) (option_map (λ j. j + 1) b)) ≡ asks_terms m n (terms (n + 1) k bs) l
 unfolding asks_terms
-terms_asked m n l ts a b e f = ap₂ (λ (x y : Option ℕ). then (at_place (Coefficient l) x) (at_place (Exponent l) y)) e f
+terms_asked m n k l bs a b e f =
+    let c = position_padded (n + 1) (λ t. not (coefficient_stands m t)) (λ t. not (coefficient_stands m t)) (λ xs. ap not (coefficient_padded m (n + 1) (words (n + 1) xs))) k bs in
+    let d = position_padded (n + 1) (λ t. not (list_all (λ e. leb e 48) (drop 1 t))) (λ t. not (exponents_stand n t)) (exponents_padded n) k bs in
+    ap₂ (λ (x y : Option ℕ). then (at_place (Coefficient l) x) (at_place (Exponent l) y))
+    (first_no_is (coefficient_stands m) (terms (n + 1) k bs) a (e ∙ c))
+    (first_no_is (exponents_stand n) (terms (n + 1) k bs) b (f ∙ d))
+
+-- the same, the text and the place known by other names
+pub asked_there : (m : FieldMeaning) (n n' k l l' at at' : ℕ) (text text' : List ℕ) (d : Refusal) → n' ≡ n → l' ≡ l → at' ≡ at → text' ≡ text
+    → d ≡ asks_terms m n' (terms (n' + 1) k (drop at' text')) l' → d ≡ asks_terms m n (terms (n + 1) k (drop at text)) l
+asked_there m n n' k l l' at at' text text' d en el ea et h = cc
 
 -- of the polynomial that bs begins with, in n variables and k terms
 module _ (m : FieldMeaning) (n k l : ℕ) (bs : List ℕ) (count : term_count bs ≡ k) where
@@ -70,24 +88,20 @@ module _ (text ws : List ℕ) (m : FieldMeaning) (n : ℕ) (p first : Place) whe
         asked = terms-asked-last None h;
         rest = lines.rest ∙ ap₂ (after_lines (n + 1)) (sym count_is) line.rest;
         line = omega (arith, lines.line, line.line, count_is);
-        counted = lines.counted;
         further = omega (arith, lines.further, line.further);
-        inside = lines.inside;
       }
 
 -- ---- a walk over k polynomials
 
 module _ (text : List ℕ) (m : FieldMeaning) (n k : ℕ) (p : Place) where
-  pub polynomials_none : Counted p → p.at ≤ length text → WalkedPolynomials text m n k 0 p p
-  polynomials_none h l =
+  pub polynomials_none : WalkedPolynomials text m n k 0 p p
+  polynomials_none =
       let e : k - 0 ≡ k = omega arith in
       record {
         asked = ap (λ (j : ℕ). asks_polynomials m n j (drop p.at text) p.line) e;
         rest = ap (λ (j : ℕ). after_all n j (drop p.at text)) e;
         line = ap (λ (j : ℕ). p.line + lines_all n j (drop p.at text)) e;
-        counted = h;
         further = omega arith;
-        inside = l;
       }
 
   module _ (i : ℕ) (q : Place) (h : i < k) where
@@ -121,9 +135,7 @@ module _ (text : List ℕ) (m : FieldMeaning) (n k : ℕ) (p : Place) where
             ∙ sym asked_next ∙ w.asked;
         rest = ap (after_all n left) l.rest ∙ sym rest_next ∙ w.rest;
         line = let r = ap (lines_all n left) l.rest in omega (arith, r, l.line, w.line, lines_next);
-        counted = l.counted;
         further = omega (arith, w.further, l.further);
-        inside = l.inside;
       }
 
   pub polynomials_passed : (i : ℕ) (q : Place) → k ≤ i → i ≤ k → WalkedPolynomials text m n k i p q → PolynomialsPassed text m n k p q
@@ -134,6 +146,5 @@ module _ (text : List ℕ) (m : FieldMeaning) (n k : ℕ) (p : Place) where
         asked = sym w.asked ∙ ap (λ (j : ℕ). asks_polynomials m n j (drop q.at text) q.line) e;
         rest = sym (ap (λ (j : ℕ). after_all n j (drop q.at text)) e) ∙ w.rest;
         line = let z = ap (λ (j : ℕ). lines_all n j (drop q.at text)) e in omega (arith, z, w.line);
-        counted = w.counted;
-        room = omega (arith, w.further, w.inside);
+        further = omega (arith, w.further);
       }

@@ -1,9 +1,9 @@
 -- From the answers to its questions to the outcome of a text.
-use Rattle.std.proofs.Common.{◌≡◌, ℕ, ◌+◌, ◌-◌, ◌<◌, ◌≤◌, Bool, true, false, cond, ◌&&◌, eqb, leb, List, [], ◌∷◌, length, get_or, take, drop, IfSome, Some, None, Ok, Err, Option, Result, sym, refl, ap, ◌∙◌, subst, ap₂, zero-add, arith, drop-cons}
+use Rattle.std.proofs.Common.{◌≡◌, ℕ, ◌+◌, ◌<◌, ◌≤◌, Bool, true, false, cond, ◌&&◌, eqb, leb, List, [], ◌∷◌, length, get_or, drop, IfSome, Some, None, Ok, Err, Option, Result, sym, refl, ap, ◌∙◌, subst, ap₂, zero-add, arith, drop-cons}
 use Rattle.std.specs.Bool.{then_some}
 use Rattle.std.specs.Result as results
-use Rattle.std.proofs.lemmas.List.{drop_all, length-take-le}
-use Rattle.std.proofs.lemmas.Bool.{eq-eqb, ne_eqb, le-leb, lt-leb, leb-true}
+use Rattle.std.proofs.lemmas.List.{drop_all}
+use Rattle.std.proofs.lemmas.Bool.{eq-eqb, ne_eqb, le-leb, lt-leb}
 use Rattle.column.specs.declared.line.LineFault.{LineFault}
 use Rattle.column.specs.Line.{line, line_length, reading_line, after_line, taken_words}
 use Rattle.column.specs.Place.{put, placed}
@@ -15,7 +15,7 @@ use Rattle.field.specs.Residues.{residues}
 use Rattle.field.specs.Faults.{residue_of}
 use Rattle.evaluation.specs.declared.fault.ProbeFault.{ProbeFault}
 use Rattle.evaluation.specs.declared.fault.ProbeFault.TheVariants.{TooLong, Line, Field, OrderCode, Variables, Point, NotOver}
-use Rattle.evaluation.specs.declared.place.Place.{Place}
+use Rattle.column.specs.declared.place.Place.{Place}
 use Rattle.evaluation.specs.Basis.{words, next, after_all, lines_all}
 use Rattle.evaluation.specs.Answer.{Refusal, then, at_place, unless, first_no, asks_line, asks_polynomials, asks_point, asks_over, values_at, outcome_over, one_to_four, outcome_with, outcome_by, outcome_from, outcome, value_lines, printed, answer}
 use Rattle.evaluation.specs.Faults.{report_of}
@@ -37,10 +37,7 @@ over_none text i h = ap asks_over (drop_all i text h)
 over_some : (text : List ℕ) (i : ℕ) → i < length text → asks_over (drop i text) ≡ Some NotOver
 over_some text i h = ap asks_over (drop-cons text i 0 h)
 
-abbrev pub second_line : Place
-second_line = record { at = 45; line = 2 }
-
-module _ (text ws : List ℕ) (m : FieldMeaning) (n k : ℕ) (end last : Place) where
+module _ (text ws : List ℕ) (m : FieldMeaning) (n k : ℕ) (first end last : Place) (at : first.at ≡ 45) (line : first.line ≡ 2) where
   abbrev bs : List ℕ
   bs = next 4 text
 
@@ -52,24 +49,33 @@ module _ (text ws : List ℕ) (m : FieldMeaning) (n k : ℕ) (end last : Place) 
   unfolding outcome_over
   basis_asked a b c ea eb ec = ap₂ (λ (x y : Refusal). unless (then x y) (values_at m n (words n (after_all n k bs)) k bs)) ea (ap₂ then eb ec)
 
-  pub basis_refused : (e : ProbeFault) → asks_polynomials m n k (drop 45 text) 2 ≡ Some e → outcome_over m n k bs ≡ Err e
-  unfolding next
-  basis_refused e h = basis_asked (Some e) _ _ h refl refl
+  abbrev start : List ℕ
+  start = drop first.at text
 
-  module _ (p : PolynomialsPassed text m n k second_line end) where
+  begins : start ≡ bs
+  unfolding next
+  begins = ap (λ (j : ℕ). drop j text) at
+
+  first_asked : (a : Refusal) → asks_polynomials m n k start first.line ≡ a → asks_polynomials m n k bs 2 ≡ a
+  first_asked a h = ap₂ (asks_polynomials m n k) (sym begins) (sym line) ∙ h
+
+  pub basis_refused : (e : ProbeFault) → asks_polynomials m n k start first.line ≡ Some e → outcome_over m n k bs ≡ Err e
+  basis_refused e h = basis_asked (Some e) _ _ (first_asked (Some e) h) refl refl
+
+  module _ (p : PolynomialsPassed text m n k first end) where
     here : after_all n k bs ≡ drop end.at text
-    unfolding next
-    here = sym p.rest
+    here = sym (p.rest ∙ ap (after_all n k) begins)
+
+    count : 2 + lines_all n k bs ≡ end.line
+    count = sym (p.line ∙ ap₂ (λ (l : ℕ) (xs : List ℕ). l + lines_all n k xs) line begins)
 
     point_asked : (b : Refusal) → asks_point m n (drop end.at text) end.line ≡ b → asks_point m n (after_all n k bs) (2 + lines_all n k bs) ≡ b
-    unfolding next
-    point_asked b e = ap₂ (asks_point m n) here (sym p.line) ∙ e
+    point_asked b e = ap₂ (asks_point m n) here count ∙ e
 
     from_point : (b c : Refusal) → asks_point m n (drop end.at text) end.line ≡ b → asks_over (next n (drop end.at text)) ≡ c
         → outcome_over m n k bs ≡ asked None b c (words n (drop end.at text))
-    unfolding next
     from_point b c eb ec =
-        basis_asked None b c p.asked (point_asked b eb) (ap (λ (xs : List ℕ). asks_over (next n xs)) here ∙ ec)
+        basis_asked None b c (first_asked None p.asked) (point_asked b eb) (ap (λ (xs : List ℕ). asks_over (next n xs)) here ∙ ec)
         ∙ ap (λ (xs : List ℕ). asked None b c (words n xs)) here
 
     pub point_unread : (e : ProbeFault) → asks_line n (drop end.at text) end.line ≡ Some e → outcome_over m n k bs ≡ Err e
@@ -87,11 +93,10 @@ module _ (text ws : List ℕ) (m : FieldMeaning) (n k : ℕ) (end last : Place) 
       pub more-follows : None ≡ first_no m.elem ws → last.at < length text → outcome_over m n k bs ≡ Err NotOver
       more-follows h i = from_point None (Some NotOver) (words-asked None h) (ap asks_over (sym l.rest) ∙ over_some text last.at i)
 
-      pub all-answered : None ≡ first_no m.elem ws → length text ≤ last.at → outcome_over m n k bs ≡ Ok (values_at m n ws k (drop 45 text))
-      unfolding next
+      pub all-answered : None ≡ first_no m.elem ws → length text ≤ last.at → outcome_over m n k bs ≡ Ok (values_at m n ws k start)
       all-answered h i =
           from_point None None (words-asked None h) (ap asks_over (sym l.rest) ∙ over_none text last.at i)
-          ∙ ap (λ (x : List ℕ). Ok (values_at m n x k (next 4 text))) (sym l.taken)
+          ∙ ap₂ (λ (x y : List ℕ). Ok (values_at m n x k y)) (sym l.taken) (sym begins)
 
 -- ---- the header
 
@@ -115,13 +120,9 @@ module _ (m : FieldMeaning) (o n k : ℕ) (bs : List ℕ) where
   header_stands : true ≡ one_to_four o → true ≡ one_to_four n → outcome_over m n k bs ≡ outcome_with m o n k bs
   header_stands h i = header_asked true true h i
 
-  -- with the words for n variables cut from four
-  cut_length : true ≡ one_to_four n → length (take (n - 0) four) ≡ n
-  cut_length h = let e : n - 0 ≡ n = omega arith in length-take-le (n - 0) four (omega (arith, leb-true n 4 (and_second _ _ (sym h)))) ∙ e
-
   pub header_wrote : (r : Result ℕ ProbeFault) (old new : List ℕ) → true ≡ one_to_four o → true ≡ one_to_four n
-      → Wrote r (outcome_over m (length (take (n - 0) four)) k bs) old new → Wrote r (outcome_with m o n k bs) old new
-  header_wrote r old new h i w = wrote_as r _ _ old new (ap (λ (j : ℕ). outcome_over m j k bs) (cut_length i) ∙ header_stands h i) w
+      → Wrote r (outcome_over m n k bs) old new → Wrote r (outcome_with m o n k bs) old new
+  header_wrote r old new h i w = wrote_as r _ _ old new (header_stands h i) w
 
 -- ---- the field
 

@@ -1,4 +1,5 @@
 mod Sums
+mod Padding
 mod Passing
 mod FirstNo
 mod Asking

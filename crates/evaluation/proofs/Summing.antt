@@ -1,5 +1,5 @@
 -- The values of polynomials that stand in a text: one turn of the walks over terms and over polynomials.
-use Rattle.std.proofs.Common.{◌≡◌, ℕ, zero, suc, ◌+◌, ◌-◌, ◌*◌, ◌<◌, ◌≤◌, Bool, true, cond, leb, List, [], ◌∷◌, ◌++◌, map, length, get_or, fold, sym, refl, ap, ◌∙◌, ap₂, zero-add, arith, length-append}
+use Rattle.std.proofs.Common.{◌≡◌, ℕ, zero, suc, ◌+◌, ◌*◌, ◌<◌, ◌≤◌, Bool, true, cond, leb, List, [], ◌∷◌, ◌++◌, map, length, get_or, fold, sym, refl, ap, ◌∙◌, ap₂, zero-add, arith, length-append}
 use mathlib.Core.List.{map-append}
 use Rattle.std.proofs.lemmas.List.{flat_map_more}
 use Rattle.std.proofs.lemmas.Bool.{le-leb}
@@ -11,50 +11,36 @@ use Rattle.column.proofs.Places.{put_none, put_put}
 use Rattle.evaluation.specs.Answer.{values_at, value_lines}
 use Rattle.evaluation.specs.Evaluation.{Term, term_value, value}
 use Rattle.evaluation.specs.Basis.{words, next, terms, after_lines, term_count, polynomial, after, polynomials, after_all}
-use Rattle.evaluation.proofs.FirstNo.{terms_from_here, lines_from_here, terms_end, lines_end}
+use Rattle.evaluation.specs.Padded.{padded}
+use Rattle.evaluation.proofs.Padding.{index_behind, value_padded}
 
 module _ (m : FieldMeaning) (n : ℕ) (x : List ℕ) where
   abbrev pub plus_term : ℕ → Term → ℕ
   plus_term a t = m.add a (term_value m n x t)
 
-  -- i of k terms are summed; the rest begins with here
-  pub record Summed (k i : ℕ) (bs here : List ℕ) (sum : ℕ) : Type 0 where
-    pub value : fold plus_term sum (terms (n + 1) (k - i) here) ≡ value m n x (terms (n + 1) k bs)
-    pub rest : after_lines (n + 1) (k - i) here ≡ after_lines (n + 1) k bs
+  -- the terms of a text, padded, sum up as they are
+  sum_padded : (c k : ℕ) (bs : List ℕ) (a : ℕ) → fold plus_term a (map (padded c) (terms c k bs)) ≡ fold plus_term a (terms c k bs)
+  unfolding terms
+  sum_padded c zero bs a = refl
+  sum_padded c (suc k) bs a =
+      ap (λ (v : ℕ). fold plus_term (m.add a v) (map (padded c) (terms c k (next c bs)))) (value_padded m n c x (words c bs))
+      ∙ sum_padded c k (next c bs) (plus_term a (words c bs))
 
-  module _ (k : ℕ) (bs : List ℕ) where
-    pub summed_none : (zero_word : ℕ) → zero_word ≡ m.zero → Summed k 0 bs bs zero_word
-    unfolding value
-    summed_none z e =
-        let s : k - 0 ≡ k = omega arith in
-        record {
-          value = ap₂ (λ (a j : ℕ). fold plus_term a (terms (n + 1) j bs)) e s;
-          rest = ap (λ (j : ℕ). after_lines (n + 1) j bs) s;
-        }
-
-    pub summed_more : (i : ℕ) (here after : List ℕ) (sum new : ℕ) → i < k → after ≡ next (n + 1) here → new ≡ plus_term sum (words (n + 1) here) → Summed k i bs here sum → Summed k (i + 1) bs after new
-    summed_more i here after sum new h f e s = record {
-      value =
-          ap (λ (a : ℕ). fold plus_term a (terms (n + 1) (k - (i + 1)) after)) e
-          ∙ sym (ap (fold plus_term sum) (terms_from_here (n + 1) k i here after f h)) ∙ s.value;
-      rest = sym (lines_from_here (n + 1) k i here after f h) ∙ s.rest;
-    }
-
-    pub summed_all : (i : ℕ) (here : List ℕ) (sum : ℕ) → k ≤ i → Summed k i bs here sum → (sum ≡ value m n x (terms (n + 1) k bs)) × (here ≡ after_lines (n + 1) k bs)
-    summed_all i here sum h s = (
-      sym (ap (fold plus_term sum) (terms_end (n + 1) k i here h)) ∙ s.value,
-      sym (lines_end (n + 1) k i here h) ∙ s.rest,
-    )
+  pub value_of_padded : (c k : ℕ) (bs : List ℕ) (z v : ℕ) → z ≡ m.zero → v ≡ fold plus_term z (map (padded c) (terms c k bs)) → v ≡ value m n x (terms c k bs)
+  unfolding value
+  value_of_padded c k bs z v ez ev = ev ∙ ap (λ (a : ℕ). fold plus_term a (map (padded c) (terms c k bs))) ez ∙ sum_padded c k bs m.zero
 
   -- from the value of the terms to that of the polynomial, whose count stands in ws
-  pub of_polynomial : (bs first rest ws : List ℕ) (v : ℕ) → ws ≡ words 1 bs → first ≡ next 1 bs
-      → v ≡ value m n x (terms (n + 1) (get_or ws 0 0) first) → rest ≡ after_lines (n + 1) (get_or ws 0 0) first
-      → (v ≡ value m n x (polynomial n bs)) × (rest ≡ after n bs)
-  unfolding polynomial after term_count
-  of_polynomial bs first rest ws v ew ef ev er = (
-    ev ∙ ap₂ (λ (xs ys : List ℕ). value m n x (terms (n + 1) (get_or xs 0 0) ys)) ew ef,
-    er ∙ ap₂ (λ (xs ys : List ℕ). after_lines (n + 1) (get_or xs 0 0) ys) ew ef,
-  )
+  pub of_polynomial : (bs first ws : List ℕ) (v : ℕ) → ws ≡ padded 1 (words 1 bs) → first ≡ after_lines 1 1 bs → v ≡ value m n x (terms (n + 1) (get_or ws 0 0) first) → v ≡ value m n x (polynomial n bs)
+  unfolding polynomial term_count after_lines
+  of_polynomial bs first ws v ew ef ev =
+      ev ∙ ap₂ (λ (k : ℕ) (ys : List ℕ). value m n x (terms (n + 1) k ys)) (ap (λ (xs : List ℕ). get_or xs 0 0) ew ∙ index_behind (words 1 bs) 4 0) ef
+
+  -- and what follows it
+  pub after_polynomial : (bs first rest ws : List ℕ) → ws ≡ padded 1 (words 1 bs) → first ≡ after_lines 1 1 bs → rest ≡ after_lines (n + 1) (get_or ws 0 0) first → rest ≡ after n bs
+  unfolding after term_count after_lines
+  after_polynomial bs first rest ws ew ef er =
+      er ∙ ap₂ (λ (k : ℕ) (ys : List ℕ). after_lines (n + 1) k ys) (ap (λ (xs : List ℕ). get_or xs 0 0) ew ∙ index_behind (words 1 bs) 4 0) ef
 
 -- ---- a walk over k polynomials that writes a line for each value
 

@@ -6,7 +6,6 @@
 --   unread r l          the fault of line l, by what reading it gave
 --   asks_line           does the line of c columns read, being line l
 --   asks_lines          do k lines of c columns read, the first of them being line l
---   nonzero_element     a word is an element other than zero
 --   coefficient_stands  the coefficient of a term is an element other than zero
 --   exponents_stand     the first n exponents of a term are at most 48
 --   asks_terms          the questions of the terms of a polynomial whose count stands in line l
@@ -25,11 +24,11 @@
 --   printed o           a line for each value, or the line of the refusal
 --   answer              the bytes that the program prints
 -- The order of the questions is the order of the lines below.
-use Rattle.std.specs.Prelude.{ℕ, zero, suc, ◌+◌, Bool, true, cond, not, ◌&&◌, List, [], ◌∷◌, map, length, Some, None, Ok, Err, Option, Result, ◌==◌, nat_le, slice_index}
+use Rattle.std.specs.Prelude.{ℕ, zero, suc, ◌+◌, Bool, true, cond, ◌&&◌, List, [], ◌∷◌, map, length, Some, None, Ok, Err, Option, Result, ◌==◌, nat_le, slice_index}
 use Rattle.std.specs.List.{flat_map}
 use Rattle.column.specs.declared.line.LineFault.{LineFault}
 use Rattle.column.specs.Line.{line, reading_line}
-use Rattle.field.specs.Meaning.{FieldMeaning, total}
+use Rattle.field.specs.Meaning.{FieldMeaning, total, nonzero_element}
 use Rattle.field.specs.Bytes.{bytes}
 use Rattle.field.specs.Residues.{residues}
 use Rattle.field.specs.Faults.{residue_of}
@@ -70,9 +69,6 @@ asks_line c bs l = unread (reading_line c bs) l
 unfoldable pub asks_lines : ℕ → ℕ → List ℕ → ℕ → Refusal
 asks_lines c zero bs l = None
 asks_lines c (suc k) bs l = then (asks_line c bs l) (asks_lines c k (next c bs) (l + 1))
-
-abbrev pub nonzero_element : FieldMeaning → ℕ → Bool
-nonzero_element m w = m.elem w && not (w == m.zero)
 
 abbrev pub coefficient_stands : FieldMeaning → Term → Bool
 coefficient_stands m t = nonzero_element m (slice_index t 0)

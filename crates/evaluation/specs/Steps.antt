@@ -1,57 +1,44 @@
 -- What one walk over lines keeps. Inner: the private functions of the crate cite it, and no public contract.
---   stands_by       the test that a question puts to a term
---   LinePassed     the line of c columns at a place reads as the words ws, and the next place follows it
---   LinesPassed    the same of k lines, without their words
---   Counted         a line's number is bounded by its place, so that it fits a word
+--   SameText        a reader reads the text of another, in as many variables
+--   LinePassed      the line of c columns at a place reads as the words ws, and the next place follows it
+--   LinesPassed     the same of k lines, without their words
 --   refusal_of      the fault of an answer, if it is one
 --   PolynomialPassed, PolynomialsPassed   the questions of one polynomial, of k polynomials, got a yes, and the next place follows them
 --   Wrote           the answer of a call with the bytes that it wrote
 --   WalkedPolynomials   i of k polynomials are passed, likewise
 --   Walked          i of k lines are passed, and what is asked and what follows is as from the start
-use Rattle.std.specs.Prelude.{◌≡◌, ℕ, ◌+◌, ◌-◌, ◌*◌, ◌≤◌, Bool, List, length, drop, Some, None, Ok, Err, Result}
+use Rattle.std.specs.Prelude.{◌≡◌, ℕ, ◌+◌, ◌-◌, ◌*◌, ◌≤◌, List, length, drop, Some, None, Ok, Err, Result}
 use Rattle.evaluation.specs.Basis.{words, next, after_lines, term_count, after, after_all, lines_all}
 use Rattle.column.specs.Line.{line_length}
 use Rattle.column.specs.Place.{put}
+use Rattle.column.specs.declared.place.Place.{Place}
 use Rattle.field.specs.Meaning.{FieldMeaning}
-use Rattle.evaluation.specs.Evaluation.{Term}
-use Rattle.evaluation.specs.Answer.{Refusal, coefficient_stands, exponents_stand, asks_line, asks_lines, asks_polynomial, asks_polynomials, value_lines}
+use Rattle.evaluation.specs.Answer.{Refusal, asks_line, asks_lines, asks_polynomial, asks_polynomials, value_lines}
 use Rattle.evaluation.specs.declared.fault.ProbeFault.{ProbeFault}
-use Rattle.evaluation.specs.declared.question.Question.{Question}
-use Rattle.evaluation.specs.declared.question.Question.TheVariants.{Coefficient, Exponents}
-use Rattle.evaluation.specs.declared.place.Place.{Place}
+use Rattle.evaluation.specs.declared.reading.Reader.{Reader}
 
-abbrev pub stands_by : FieldMeaning → ℕ → Question → Term → Bool
-stands_by m n Coefficient t = coefficient_stands m t
-stands_by m n Exponents t = exponents_stand n t
-
-abbrev pub Counted : Place → Type 0
-Counted p = p.line ≤ p.at + 2
+abbrev pub SameText : Reader → Reader → Type 0
+SameText p q = (q.text.now ≡ p.text.now) × (q.n ≡ p.n)
 
 pub record LinePassed (text : List ℕ) (c : ℕ) (p q : Place) (ws : List ℕ) : Type 0 where
   pub asked : asks_line c (drop p.at text) p.line ≡ None
   pub rest : drop q.at text ≡ next c (drop p.at text)
   pub line : q.line ≡ p.line + 1
-  pub counted : Counted q
   pub further : p.at + line_length c ≡ q.at
-  pub inside : q.at ≤ length text
   pub taken : ws ≡ words c (drop p.at text)
 
 pub record LinesPassed (text : List ℕ) (c k : ℕ) (p q : Place) : Type 0 where
   pub asked : asks_lines c k (drop p.at text) p.line ≡ None
   pub rest : drop q.at text ≡ after_lines c k (drop p.at text)
   pub line : q.line ≡ p.line + k
-  pub counted : Counted q
   pub further : p.at ≤ q.at
-  pub inside : q.at ≤ length text
 
 -- i of k lines are passed: what is asked and what follows is as from the start
 pub record Walked (text : List ℕ) (c k i : ℕ) (p q : Place) : Type 0 where
   pub asked : asks_lines c (k - i) (drop q.at text) q.line ≡ asks_lines c k (drop p.at text) p.line
   pub rest : after_lines c (k - i) (drop q.at text) ≡ after_lines c k (drop p.at text)
   pub line : q.line ≡ p.line + i
-  pub counted : Counted q
   pub further : p.at ≤ q.at
-  pub inside : q.at ≤ length text
 
 -- the fault of an answer, if it is one
 abbrev pub refusal_of : {A : Type 0} → Result A ProbeFault → Refusal
@@ -62,25 +49,20 @@ pub record PolynomialPassed (text : List ℕ) (m : FieldMeaning) (n : ℕ) (p q 
   pub asked : asks_polynomial m n (drop p.at text) p.line ≡ None
   pub rest : drop q.at text ≡ after n (drop p.at text)
   pub line : q.line ≡ p.line + (1 + term_count (drop p.at text))
-  pub counted : Counted q
   pub further : p.at + 12 ≤ q.at
-  pub inside : q.at ≤ length text
 
 pub record PolynomialsPassed (text : List ℕ) (m : FieldMeaning) (n k : ℕ) (p q : Place) : Type 0 where
   pub asked : asks_polynomials m n k (drop p.at text) p.line ≡ None
   pub rest : drop q.at text ≡ after_all n k (drop p.at text)
   pub line : q.line ≡ p.line + lines_all n k (drop p.at text)
-  pub counted : Counted q
-  pub room : 12 * k ≤ length text
+  pub further : 12 * k ≤ q.at
 
 -- i of k polynomials are passed: what is asked, what follows and how many lines there are is as from the start
 pub record WalkedPolynomials (text : List ℕ) (m : FieldMeaning) (n k i : ℕ) (p q : Place) : Type 0 where
   pub asked : asks_polynomials m n (k - i) (drop q.at text) q.line ≡ asks_polynomials m n k (drop p.at text) p.line
   pub rest : after_all n (k - i) (drop q.at text) ≡ after_all n k (drop p.at text)
   pub line : q.line + lines_all n (k - i) (drop q.at text) ≡ p.line + lines_all n k (drop p.at text)
-  pub counted : Counted q
   pub further : 12 * i ≤ q.at
-  pub inside : q.at ≤ length text
 
 -- an answer with the bytes that it wrote, and what is asked for: the values' lines are written at the front, and a refusal writes nothing
 abbrev pub Wrote : Result ℕ ProbeFault → Result (List ℕ) ProbeFault → List ℕ → List ℕ → Type 0

@@ -1,5 +1,5 @@
 // The value of a polynomial at a point, in any field. Reads what it is lent, writes nothing.
-ghost use Rattle.std.specs.Prelude.{◌≡◌, ◌+◌, length};
+ghost use Rattle.std.specs.Prelude.{◌≡◌, ◌≤◌, length};
 ghost use Rattle.evaluation.specs.Evaluation.{power, term_value};
 
 use field::Field;
@@ -16,8 +16,8 @@ fn raised<F: Field>(field: &F, x: u32, e: u32) -> u32
 }
 
 // The value at `point` of a term: its coefficient, then an exponent for each word of the point.
-pub(crate) fn term_at<F: Field>(field: &F, point: &[u32], term: &[u32]) -> u32
-    requires { length term.now ≡ length point.now + 1 }
+pub(crate) fn term_at<F: Field>(field: &F, point: &[u32], term: &[u32; 5]) -> u32
+    requires { length point.now ≤ 4 }
     ensures { result ≡ term_value (F.Field.meaning field.now) (length point.now) point.now term.now }
 {
     let mut product = term[0];

@@ -7,10 +7,10 @@ pub mod answer;
 mod basis;
 mod evaluate;
 pub mod fault;
-mod place;
-mod question;
+mod header;
 mod questions;
 mod reading;
+mod terms;
 mod values;
 
 pub use answer::answer_to;

@@ -1,83 +1,52 @@
-// The questions that the terms of a polynomial and the words of a point are asked. Each loop finds
+// The questions that the terms of a polynomial and the words of a point are asked. Each search finds
 // the first that gets a no; nothing here decides the order of the questions.
-ghost use Rattle.std.specs.Prelude.{◌≡◌, ◌+◌, ◌≤◌, length, drop};
-ghost use Rattle.evaluation.specs.Basis.{terms};
-ghost use Rattle.evaluation.specs.Answer.{nonzero_element, exponents_stand, first_no};
-ghost use Rattle.evaluation.specs.Steps.{stands_by};
+ghost use Rattle.std.specs.Prelude.{◌≡◌, not, ◌<◌, length, drop, nat_le, position, IfSome};
+ghost use Rattle.std.specs.List.{list_all};
+ghost use Rattle.evaluation.specs.Answer.{coefficient_stands};
+ghost use Rattle.evaluation.specs.Padded.{terms_left};
 
-use crate::question::Question;
-use crate::reading::{after_line, take_line};
+use crate::terms::Terms;
 use field::Field;
 
 const LARGEST_EXPONENT: u32 = 48;
 
-// Is a word an element other than zero?
-fn nonzero_element<F: Field>(field: &F, word: u32) -> bool
-    ensures { result ≡ nonzero_element (F.Field.meaning field.now) word }
-{
-    field.contains(word) & (word != field.zero())
-}
-
 // Are the exponents of a term at most 48?
-fn exponents_stand(term: &[u32], n: usize) -> bool
-    requires { length term.now ≡ n + 1 }
-    ensures { result ≡ exponents_stand n term.now }
+fn exponents_stand(term: &[u32; 5]) -> bool
+    ensures { result ≡ list_all (λ e. nat_le e 48) (drop 1 term.now) }
 {
-    let mut stand = true;
-    for i in 0..n {
-        stand = stand & (term[i + 1] <= LARGEST_EXPONENT);
-    }
-    stand
+    term[1..]
+        .iter()
+        .all(|exponent| *exponent <= LARGEST_EXPONENT)
 }
 
-// Does a term in `n` variables get a yes?
-fn stands<F: Field>(field: &F, question: Question, term: &[u32], n: usize) -> bool
-    requires { length term.now ≡ n + 1 }
-    ensures { result ≡ stands_by (F.Field.meaning field.now) n question term.now }
+// The first of the terms whose coefficient is zero or no element.
+pub(crate) fn first_bad_coefficient<F: Field>(field: &F, mut terms: Terms<'_>) -> Option<usize>
+    ensures first { result ≡ position (λ t. not (coefficient_stands (F.Field.meaning field.now) t)) (terms_left terms.entry) }
+    ensures within { IfSome result (λ k. k < terms.entry.left) }
 {
-    match question {
-        Question::Coefficient => nonzero_element(field, term[0]),
-        Question::Exponents => exponents_stand(term, n),
-    }
+    terms.position(
+        |term| -> bool
+            ensures { result ≡ not (coefficient_stands (F.Field.meaning field.entry.now) term) }
+        { !field.is_nonzero_element(term[0]) },
+    )
 }
 
-// The first of the terms from a place on that gets a no, from 1.
-pub(crate) fn first_failing_term<F: Field>(
-    field: &F,
-    question: Question,
-    text: &[u8],
-    at: usize,
-    count: u32,
-    n: usize,
-    scratch: &mut [u32],
-) -> Option<u32>
-    requires short { length text.now ≤ 8192 }
-    requires inside { at ≤ length text.now }
-    requires few { n ≤ 4 }
-    requires wide { length scratch.old ≡ n + 1 }
-    ensures same_length { length scratch.new ≡ length scratch.old }
-    ensures first { result ≡ first_no (stands_by (F.Field.meaning field.now) n question) (terms (n + 1) count (drop at text.now)) }
+// The first of the terms that has an exponent over 48.
+pub(crate) fn first_bad_exponent(mut terms: Terms<'_>) -> Option<usize>
+    ensures first { result ≡ position (λ t. not (list_all (λ e. nat_le e 48) (drop 1 t))) (terms_left terms.entry) }
+    ensures within { IfSome result (λ k. k < terms.entry.left) }
 {
-    let mut here = at;
-    for i in 0..count {
-        take_line(text, here, scratch);
-        if !stands(field, question, scratch, n) {
-            return Some(i + 1);
-        }
-        here = after_line(text, here, n + 1);
-    }
-    None
+    terms.position(
+        |term| -> bool
+            ensures { result ≡ not (list_all (λ e. nat_le e 48) (drop 1 term)) }
+        { !exponents_stand(&term) },
+    )
 }
 
-// The first of the words that is no element, from 1.
-pub(crate) fn first_no_element<F: Field>(field: &F, words: &[u32]) -> Option<u32>
-    requires { length words.now ≤ 4 }
-    ensures { result ≡ first_no (F.Field.meaning field.now).elem words.now }
+// The first of the words that is no element.
+pub(crate) fn first_no_element<F: Field>(field: &F, words: &[u32]) -> Option<usize>
+    ensures first { result ≡ position (λ w. not ((F.Field.meaning field.now).elem w)) words.now }
+    ensures within { IfSome result (λ k. k < length words.now) }
 {
-    for i in 0..words.len() {
-        if !field.contains(words[i]) {
-            return Some(i as u32 + 1);
-        }
-    }
-    None
+    words.iter().position(|word| !field.contains(*word))
 }

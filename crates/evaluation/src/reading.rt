@@ -1,65 +1,72 @@
-// Reading lines of a text where they stand. Nothing is copied but one line's words, into scratch
-// that the caller lends.
-ghost use Rattle.std.specs.Prelude.{◌≡◌, ◌≤◌, length, drop, Some, Ok, Err};
-ghost use Rattle.evaluation.specs.Basis.{words, next};
-ghost use Rattle.evaluation.specs.Answer.{asks_line, asks_lines};
-ghost use Rattle.evaluation.specs.Steps.{Counted, LinePassed, LinesPassed};
+// Reading a short text from line to line, with the fault of a line that does not read.
+ghost use Rattle.std.specs.Prelude.{◌≡◌, ◌+◌, ◌≤◌, length, drop, Some, MatchResult};
 
 use crate::fault::ProbeFault;
-use crate::place::Place;
-use column::read_line;
+use crate::terms::Lines;
+use column::Place;
 
-// Reads the line at a place into the scratch, zeros where it does not read.
-pub(crate) fn take_line(text: &[u8], at: usize, scratch: &mut [u32])
-    ensures { scratch.new ≡ words (length scratch.old) (drop at text.now) }
-{
-    scratch.fill(0);
-    let _ = read_line(text, at, scratch);
+// A text of at most 8192 bytes at one of its lines, with terms in at most four variables.
+#[derive(Clone, Copy)]
+pub(crate) struct Reader<'a> {
+    pub text: &'a [u8],
+    pub place: Place,
+    pub n: usize,
+    pub ghost short: { length text.now ≤ 8192 },
+    pub ghost inside: { place.at ≤ length text.now },
+    pub ghost few: { n ≤ 4 },
 }
 
-// The place after a line of so many columns, or the end of the text where it would lie behind that.
-pub(crate) fn after_line(text: &[u8], at: usize, columns: usize) -> usize
-    requires short { length text.now ≤ 8192 }
-    requires inside { at ≤ length text.now }
-    requires few { columns ≤ 5 }
-    ensures inside { result ≤ length text.now }
-    ensures rest { drop result text.now ≡ next columns (drop at text.now) }
-{
-    (at + 11 * columns + 1).min(text.len())
-}
+impl<'a> Reader<'a> {
+    ghost use Rattle.evaluation.specs.Answer.{asks_line, asks_lines};
+    ghost use Rattle.evaluation.specs.Steps.{SameText, LinePassed, LinesPassed};
 
-// Reads the line at a place into the scratch and answers the place of the next.
-pub(crate) fn next_line(text: &[u8], place: Place, scratch: &mut [u32]) -> Result<Place, ProbeFault>
-    requires few { length text.now ≤ 8192 }
-    requires counted { Counted place }
-    ensures same_length { length scratch.new ≡ length scratch.old }
-    ensures asked { elim result [ Ok q ↦ LinePassed text.now (length scratch.old) place q scratch.new | Err e ↦ asks_line (length scratch.old) (drop place.at text.now) place.line ≡ Some e ] }
-{
-    match read_line(text, place.at, scratch) {
-        Ok(at) => Ok(Place {
-            at,
-            line: place.line + 1,
-        }),
-        Err(fault) => Err(ProbeFault::Line(fault, place.line)),
+    // The number of the line, as a fault carries it.
+    pub fn line(self) -> u32
+        ensures { result ≡ self.entry.place.line }
+    {
+        self.place.line as u32
     }
-}
 
-// Reads so many lines from a place on and answers the place after them.
-pub(crate) fn pass_lines(
-    text: &[u8],
-    place: Place,
-    count: u32,
-    scratch: &mut [u32],
-) -> Result<Place, ProbeFault>
-    requires few { length text.now ≤ 8192 }
-    requires counted { Counted place }
-    requires inside { place.at ≤ length text.now }
-    ensures same_length { length scratch.new ≡ length scratch.old }
-    ensures asked { elim result [ Ok q ↦ LinesPassed text.now (length scratch.old) count place q | Err e ↦ asks_lines (length scratch.old) count (drop place.at text.now) place.line ≡ Some e ] }
-{
-    let mut here = place;
-    for _i in 0..count {
-        here = next_line(text, here, scratch)?;
+    // Reads the line here into the words.
+    pub fn read(self, words: &mut [u32]) -> Result<Reader<'a>, ProbeFault>
+        ensures asked { MatchResult result
+            (λ q. SameText self.entry q × LinePassed self.entry.text.now (length words.old) self.entry.place q.place words.new)
+            (λ e. asks_line (length words.old) (drop self.entry.place.at self.entry.text.now) self.entry.place.line ≡ Some e) }
+    {
+        let line = self.line();
+        let place = self
+            .place
+            .read_line(self.text, words)
+            .map_err(|fault| ProbeFault::Line(fault, line))?;
+        Ok(Reader {
+            text: self.text,
+            place,
+            n: self.n,
+        })
     }
-    Ok(here)
+
+    // Reads the lines of so many terms.
+    pub fn pass_terms(self, count: u32) -> Result<Reader<'a>, ProbeFault>
+        ensures asked { MatchResult result
+            (λ q. SameText self.entry q × LinesPassed self.entry.text.now (self.entry.n + 1) count self.entry.place q.place)
+            (λ e. asks_lines (self.entry.n + 1) count (drop self.entry.place.at self.entry.text.now) self.entry.place.line ≡ Some e) }
+    {
+        let mut words = [0u32; 5];
+        let mut here = self;
+        for _i in 0..count {
+            here = here.read(&mut words[..=self.n])?;
+        }
+        Ok(here)
+    }
+
+    // The lines from here on, once more.
+    pub fn lines(self) -> Lines<'a>
+        ensures text { result.text.now ≡ self.entry.text.now }
+        ensures at { result.at ≡ self.entry.place.at }
+    {
+        Lines {
+            text: self.text,
+            at: self.place.at,
+        }
+    }
 }

@@ -5,19 +5,6 @@ ghost use Rattle.std.specs.List.{AllByRecursion};
 ghost use Rattle.evaluation.specs.Faults.{number_of, layer_at, line_of, place_of, report_of};
 
 use crate::fault::ProbeFault;
-use column::LineFault;
-
-// The layer of a refusal's number: field, job, text or program.
-fn layer(number: u32) -> u32
-    ensures { result ≡ layer_at number }
-{
-    match number {
-        0..=2 => 1,
-        3..=25 => 2,
-        26..=29 => 3,
-        _ => 4,
-    }
-}
 
 impl ProbeFault {
     pub fn number(self) -> u32
@@ -25,8 +12,7 @@ impl ProbeFault {
     {
         match self {
             ProbeFault::TooLong => 32,
-            ProbeFault::Line(LineFault::WrongLength, _) => 26,
-            ProbeFault::Line(LineFault::NotANumber, _) => 27,
+            ProbeFault::Line(fault, _) => fault.number(),
             ProbeFault::Field(fault) => fault.number(),
             ProbeFault::OrderCode => 31,
             ProbeFault::Variables => 4,
@@ -35,6 +21,22 @@ impl ProbeFault {
             ProbeFault::Exponent(_, _) => 10,
             ProbeFault::Point(_, _) => 22,
             ProbeFault::NotOver => 30,
+        }
+    }
+
+    // The layer of the refusal: field, job, text or program.
+    fn layer(self) -> u32
+        ensures { result ≡ layer_at (number_of self) }
+    {
+        match self {
+            ProbeFault::Field(_) => 1,
+            ProbeFault::Variables
+            | ProbeFault::NoTerm(_)
+            | ProbeFault::Coefficient(_, _)
+            | ProbeFault::Exponent(_, _)
+            | ProbeFault::Point(_, _) => 2,
+            ProbeFault::Line(_, _) => 3,
+            ProbeFault::TooLong | ProbeFault::OrderCode | ProbeFault::NotOver => 4,
         }
     }
 
@@ -68,7 +70,6 @@ impl ProbeFault {
         ensures value { result ≡ report_of self }
         ensures words { AllByRecursion Word result }
     {
-        let number = self.number();
-        [number, layer(number), self.line(), self.place()]
+        [self.number(), self.layer(), self.line(), self.place()]
     }
 }

@@ -1,40 +1,74 @@
-use Rattle.std.proofs.Common.{ℕ, length, drop, Ok, sym, refl, ap, ◌∙◌}
+use Rattle.std.proofs.Common.{◌≡◌, ℕ, ◌+◌, List, length, drop, Some, Err, sym, refl, ap, ◌∙◌, ap₂}
 use Rattle.std.proofs.lemmas.Result.{err_from_is_err_and}
-use Rattle.evaluation.specs.Answer.{values_at}
-use Rattle.evaluation.proofs.Deciding.{basis_refused, point_unread, word-refused, more-follows, all-answered}
+use Rattle.std.proofs.lemmas.List.{length-take-le}
+use Rattle.evaluation.specs.declared.fault.ProbeFault.TheVariants.{Point}
+use Rattle.evaluation.specs.Answer.{values_at, value_lines}
+use Rattle.column.specs.Place.{put}
+use Rattle.evaluation.proofs.FirstNo.{first_no_is}
+use Rattle.evaluation.proofs.Passing.{line_moved, asked_moved}
+use Rattle.evaluation.proofs.Deciding.{four, basis_refused, point_unread, word-refused, more-follows, all-answered}
 use Rattle.evaluation.proofs.answer.answer_basis.Goals as goal
 
 pub returns-in_err-end : goal.returns-in_err-end
 returns-in_err-end g c =
     let p = err_from_is_err_and c.from_residual.result c.from_residual.ensures.1 in
+    let h = c.args.header in
     rw (p.1, p.2) (record {
-      wrote = (basis_refused c.args.text.now c.args.point.now (g.F.Field.meaning c.args.field.now) (length c.args.point.now) c.args.count (record { at = 45; line = 2 }) (record { at = 45; line = 2 }) _ c.in_err-end.ensures.asked, refl);
+      wrote = (basis_refused h.text.now four (g.F.Field.meaning c.args.field.now) c.args.n h.count h.end h.end h.end h.at h.line _ c.in_err-end.ensures.asked, refl);
     })
 
 pub returns-in_err-last : goal.returns-in_err-last
 returns-in_err-last g c =
     let p = err_from_is_err_and c.from_residual-in_err-last.result c.from_residual-in_err-last.ensures.1 in
+    let h = c.args.header in
+    let end = c.in_ok-end.ensures.asked in
+    let wide = length-take-le c.args.n four c.requires.few in
+    let e = asked_moved h.text.now _ c.args.n _ c.in_ok-end.end.place _ end.0.0 wide c.in_err-last.ensures.asked in
     rw (p.1, p.2) (record {
-      wrote = (point_unread c.args.text.now c.args.point.now (g.F.Field.meaning c.args.field.now) (length c.args.point.now) c.args.count c.in_ok-end.end c.in_ok-end.end c.in_ok-end.ensures.asked _ c.in_err-last.ensures.asked, refl);
+      wrote = (point_unread h.text.now four (g.F.Field.meaning c.args.field.now) c.args.n h.count h.end c.in_ok-end.end.place h.end h.at h.line end.1 _ e, refl);
     })
 
 pub returns-in-Some : goal.returns-in-Some
-returns-in-Some g c = record {
-  wrote = (word-refused c.args.text.now c.next_line.new.scratch (g.F.Field.meaning c.args.field.now) (length c.args.point.now) c.args.count c.in_ok-end.end c.in_ok-last.last c.in_ok-end.ensures.asked c.in_ok-last.ensures.asked c.in-Some.word c.in-Some.ensures, refl);
-}
+returns-in-Some g c =
+    let m = g.F.Field.meaning c.args.field.now in
+    let h = c.args.header in
+    let ws = c.read.new.words in
+    let end = c.in_ok-end.ensures.asked in
+    let last = c.in_ok-last.last.place in
+    let l = line_moved h.text.now _ c.args.n _ c.in_ok-end.end.place last ws end.0.0 (length-take-le c.args.n four c.requires.few) c.in_ok-last.ensures.asked.1 in
+    let w = first_no_is m.elem ws (Some c.in-Some.word) c.in-Some.ensures.first in
+    record {
+      wrote = (word-refused h.text.now ws m c.args.n h.count h.end c.in_ok-end.end.place last h.at h.line end.1 l _ w ∙ ap (λ (j : ℕ). Err (Point j (c.in-Some.word + 1))) (sym c.line.ensures), refl);
+    }
 
-pub returns-then-last-text : goal.returns-then-last-text
-returns-then-last-text g c = record {
-  wrote = (more-follows c.args.text.now c.next_line.new.scratch (g.F.Field.meaning c.args.field.now) (length c.args.point.now) c.args.count c.in_ok-end.end c.in_ok-last.last c.in_ok-end.ensures.asked c.in_ok-last.ensures.asked c.in_default.ensures c.if-last-text.true, refl);
-}
+pub returns-then-last-header : goal.returns-then-last-header
+returns-then-last-header g c =
+    let m = g.F.Field.meaning c.args.field.now in
+    let h = c.args.header in
+    let ws = c.read.new.words in
+    let end = c.in_ok-end.ensures.asked in
+    let last = c.in_ok-last.last.place in
+    let l = line_moved h.text.now _ c.args.n _ c.in_ok-end.end.place last ws end.0.0 (length-take-le c.args.n four c.requires.few) c.in_ok-last.ensures.asked.1 in
+    record {
+      wrote = (more-follows h.text.now ws m c.args.n h.count h.end c.in_ok-end.end.place last h.at h.line end.1 l (first_no_is m.elem ws _ c.in_default.ensures.first) c.if-last-header.true, refl);
+    }
 
 pub returns : goal.returns
 returns g c =
     let m = g.F.Field.meaning c.args.field.now in
-    let ws = c.next_line.new.scratch in
-    let text = c.args.text.now in
-    let e =
-    all-answered text ws m (length c.args.point.now) c.args.count c.in_ok-end.end c.in_ok-last.last c.in_ok-end.ensures.asked c.in_ok-last.ensures.asked c.in_default.ensures c.if-last-text.false in
+    let h = c.args.header in
+    let ws = c.read.new.words in
+    let n = c.args.n in
+    let end = c.in_ok-end.ensures.asked in
+    let last = c.in_ok-last.last.place in
+    let wide = length-take-le n four c.requires.few in
+    let l = line_moved h.text.now _ n _ c.in_ok-end.end.place last ws end.0.0 wide c.in_ok-last.ensures.asked.1 in
+    let e = all-answered h.text.now ws m n h.count h.end c.in_ok-end.end.place last h.at h.line end.1 l (first_no_is m.elem ws _ c.in_default.ensures.first) c.if-last-header.false in
+    let start = drop h.end.at h.text.now in
+    let long : length ws ≡ n = c.read.auto.words ∙ wide in
+    let from : drop c.lines.result.at c.lines.result.text.now ≡ start = ap₂ (λ (j : ℕ) (t : List ℕ). drop j t) c.lines.ensures.at c.lines.ensures.text in
+    let same : value_lines (values_at m (length ws) ws h.count (drop c.lines.result.at c.lines.result.text.now)) ≡ value_lines (values_at m n ws h.count start) =
+    ap₂ (λ (j : ℕ) (bs : List ℕ). value_lines (values_at m j ws h.count bs)) long from in
     record {
-      wrote = (values_at m (length ws) ws c.args.count (drop 45 text), e ∙ ap (λ (j : ℕ). Ok (values_at m j ws c.args.count (drop 45 text))) (sym c.next_line.auto.scratch), c.write_values.ensures.bytes, c.write_values.ensures.end, c.write_values.ensures.within);
+      wrote = (values_at m n ws h.count start, e, c.write_values.ensures.bytes ∙ ap (put c.args.out.now 0) same, c.write_values.ensures.end ∙ ap length same, c.write_values.ensures.within);
     }
