@@ -4,6 +4,7 @@ pub mod Fronts
 pub mod Justified
 pub mod Lines
 pub mod Newlines
+pub mod Pieces
 pub mod Places
 pub mod Questions
 pub mod Spelling

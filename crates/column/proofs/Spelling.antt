@@ -1,7 +1,7 @@
 -- Writing a number's digits from the last to the first into the eleven bytes of a column.
 --   Spelled part place number rest    the digits of rest, then the bytes from the place on, are the digits of the number
 -- Used by: put_digits.
-use Rattle.std.proofs.Common.{◌≡◌, ℕ, ◌+◌, ◌-◌, ◌*◌, ◌/◌, ◌%◌, ◌<◌, ◌≤◌, List, [], ◌∷◌, ◌++◌, length, drop, set, decimal, sym, ap, ◌∙◌, arith, length-append, length-drop}
+use Rattle.std.proofs.Common.{◌≡◌, ℕ, ◌+◌, ◌-◌, ◌/◌, ◌%◌, ◌<◌, ◌≤◌, List, [], ◌∷◌, ◌++◌, length, drop, set, decimal, sym, ap, ◌∙◌, arith, length-append, length-drop}
 use Rattle.std.proofs.lemmas.Fmt.{decimal_digit, decimal_step, decimal_nonempty}
 use Rattle.std.proofs.lemmas.List.{append_assoc, append-nil, drop_all, drop-set}
 use Rattle.column.specs.Column.{Word}
@@ -37,14 +37,13 @@ module _ (part : List ℕ) (place number rest : ℕ) (n : length part ≡ 11) (w
       let e : place - 1 + 1 ≡ place = omega arith in
       drop-set part (place - 1) b (omega arith) ∙ ap (λ k. b ∷ drop k part) e
 
-  pub spelled_more : 10 ≤ rest → Spelled (set part (place - 1) (48 + (rest - rest / 10 * 10))) (place - 1) number (rest / 10)
+  pub spelled_more : 10 ≤ rest → Spelled (set part (place - 1) (48 + rest % 10)) (place - 1) number (rest / 10)
   spelled_more big =
-      let b : ℕ = 48 + (rest - rest / 10 * 10) in
+      let b : ℕ = 48 + rest % 10 in
       let small = s.2 in
-      let low = s.1 in
-      let e : 48 + rest % 10 ≡ b = omega arith in (
+      let low = s.1 in (
         s.0
-            ∙ ap (λ ds. ds ++ drop place part) (decimal_step rest big (omega arith) ∙ ap (λ x. decimal (rest / 10) ++ (x ∷ [])) e)
+            ∙ ap (λ ds. ds ++ drop place part) (decimal_step rest big (omega arith))
             ∙ append_assoc (decimal (rest / 10)) (b ∷ []) (drop place part)
             ∙ ap (λ xs. decimal (rest / 10) ++ xs) (sym (written_before b)),
         omega arith,

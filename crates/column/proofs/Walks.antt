@@ -1,9 +1,9 @@
 -- The loops over a line: one step of each, over the bytes that are left.
--- Used by: all_numbers, take_words, put_columns.
-use Rattle.std.proofs.Common.{◌≡◌, ℕ, suc, ◌+◌, ◌-◌, ◌*◌, ◌<◌, ◌≤◌, true, false, ◌&&◌, List, [], ◌∷◌, ◌++◌, length, get_or, take, drop, set, is_some, Option, unwrap_or, sym, refl, ap, ◌∙◌, arith, length-append}
+-- Used by: take_words, put_columns.
+use Rattle.std.proofs.Common.{◌≡◌, ℕ, suc, ◌+◌, ◌-◌, ◌*◌, ◌<◌, ◌≤◌, List, [], ◌∷◌, ◌++◌, length, get_or, take, drop, set, Option, unwrap_or, sym, refl, ap, ◌∙◌, arith, length-append}
 use Rattle.std.proofs.lemmas.List.{append_assoc, drop-drop, flat_map_more, take_all, take_more, take_more_set}
 use Rattle.column.specs.Column.{Word, column, reading}
-use Rattle.column.specs.Line.{columns, numbers, values}
+use Rattle.column.specs.Line.{columns, values}
 use Rattle.column.specs.Place.{put}
 use Rattle.column.proofs.Columns.{column_length}
 use Rattle.column.proofs.Places.{put_none, put_put}
@@ -14,45 +14,24 @@ use Rattle.column.proofs.Places.{put_none, put_put}
 pub part_is_column : (bytes : List ℕ) (from : ℕ) (o : Option ℕ) → o ≡ reading (take (from + 11 - from) (drop from bytes)) → o ≡ reading (take 11 (drop from bytes))
 part_is_column bytes from o e = let n : from + 11 - from ≡ 11 = omega arith in e ∙ ap (λ k. reading (take k (drop from bytes))) n
 
-pub numbers_none : (c i : ℕ) (bs : List ℕ) → c ≤ i → numbers (c - i) bs ≡ true
-unfolding numbers
-numbers_none c i bs h = let e : c - i ≡ 0 = omega arith in ap (λ n. numbers n bs) e
-
 pub values_none : (c i : ℕ) (bs : List ℕ) → c ≤ i → values (c - i) bs ≡ []
 unfolding values
 values_none c i bs h = let e : c - i ≡ 0 = omega arith in ap (λ n. values n bs) e
 
-module _ (bytes : List ℕ) (at c i : ℕ) (h : i < c) where
-  left : c - i ≡ suc (c - (i + 1))
-  left = omega arith
-
-  next : drop 11 (drop (at + 11 * i) bytes) ≡ drop (at + 11 * (i + 1)) bytes
-  next = drop-drop 11 (at + 11 * i) bytes ∙ ap (λ n. drop n bytes) (omega arith)
-
-  numbers_more : numbers (c - i) (drop (at + 11 * i) bytes) ≡ (is_some (reading (take 11 (drop (at + 11 * i) bytes))) && numbers (c - (i + 1)) (drop (at + 11 * (i + 1)) bytes))
-  unfolding numbers
-  numbers_more =
-      ap (λ n. numbers n (drop (at + 11 * i) bytes)) left
-      ∙ ap (λ bs. is_some (reading (take 11 (drop (at + 11 * i) bytes))) && numbers (c - (i + 1)) bs) next
-
-  -- the test of one column decides, or leaves it to the next
-  pub numbers_stop : (o : Option ℕ) → o ≡ reading (take 11 (drop (at + 11 * i) bytes)) → is_some o ≡ false → numbers (c - i) (drop (at + 11 * i) bytes) ≡ false
-  numbers_stop o e n = numbers_more ∙ ap (λ t. t && numbers (c - (i + 1)) (drop (at + 11 * (i + 1)) bytes)) (ap is_some (sym e) ∙ n)
-
-  pub numbers_go : (o : Option ℕ) → o ≡ reading (take 11 (drop (at + 11 * i) bytes)) → is_some o ≡ true → numbers (c - i) (drop (at + 11 * i) bytes) ≡ numbers (c - (i + 1)) (drop (at + 11 * (i + 1)) bytes)
-  numbers_go o e n = numbers_more ∙ ap (λ t. t && numbers (c - (i + 1)) (drop (at + 11 * (i + 1)) bytes)) (ap is_some (sym e) ∙ n)
-
-  values_more : values (c - i) (drop (at + 11 * i) bytes) ≡ unwrap_or (reading (take 11 (drop (at + 11 * i) bytes))) 0 ∷ values (c - (i + 1)) (drop (at + 11 * (i + 1)) bytes)
+module _ (bytes : List ℕ) (c i : ℕ) (h : i < c) where
+  values_more : values (c - i) (drop (11 * i) bytes) ≡ unwrap_or (reading (take 11 (drop (11 * i) bytes))) 0 ∷ values (c - (i + 1)) (drop (11 * (i + 1)) bytes)
   unfolding values
   values_more =
-      ap (λ n. values n (drop (at + 11 * i) bytes)) left
-      ∙ ap (λ bs. unwrap_or (reading (take 11 (drop (at + 11 * i) bytes))) 0 ∷ values (c - (i + 1)) bs) next
+      let left : c - i ≡ suc (c - (i + 1)) = omega arith in
+      let n : 11 * i + 11 ≡ 11 * (i + 1) = omega arith in
+      ap (λ n. values n (drop (11 * i) bytes)) left
+      ∙ ap (λ bs. unwrap_or (reading (take 11 (drop (11 * i) bytes))) 0 ∷ values (c - (i + 1)) bs) (drop-drop 11 (11 * i) bytes ∙ ap (λ n. drop n bytes) n)
 
   -- the words that stand, then those to come
-  pub words_more : (words : List ℕ) (w : ℕ) → i < length words → w ≡ unwrap_or (reading (take 11 (drop (at + 11 * i) bytes))) 0
-      → take (i + 1) (set words i w) ++ values (c - (i + 1)) (drop (at + 11 * (i + 1)) bytes) ≡ take i words ++ values (c - i) (drop (at + 11 * i) bytes)
+  pub words_more : (words : List ℕ) (w : ℕ) → i < length words → w ≡ unwrap_or (reading (take 11 (drop (11 * i) bytes))) 0
+      → take (i + 1) (set words i w) ++ values (c - (i + 1)) (drop (11 * (i + 1)) bytes) ≡ take i words ++ values (c - i) (drop (11 * i) bytes)
   words_more words w k e =
-      let to-come : List ℕ = values (c - (i + 1)) (drop (at + 11 * (i + 1)) bytes) in
+      let to-come : List ℕ = values (c - (i + 1)) (drop (11 * (i + 1)) bytes) in
       ap (λ xs. xs ++ to-come) (take_more_set words i w k)
       ∙ append_assoc (take i words) (w ∷ []) to-come
       ∙ ap (λ v. take i words ++ (v ∷ to-come)) e

@@ -1,6 +1,6 @@
 // A line: columns, then byte 10.
 // Reads a line into words that the caller lends, and writes one into lent bytes; a refused call leaves what was lent as it was.
-ghost use Rattle.std.specs.Prelude.{◌≡◌, ◌+◌, ◌*◌, ◌≤◌, true, length, drop, nat_le, ◌==◌, position, IfOk};
+ghost use Rattle.std.specs.Prelude.{◌≡◌, ◌+◌, ◌*◌, ◌/◌, ◌≤◌, true, length, drop, nat_le, ◌==◌, position, IfOk};
 ghost use Rattle.column.specs.Line.{columns, line, line_length, before_newline, exact, numbers, values};
 ghost use Rattle.column.specs.Line.{after_line, taken_words, LineTaken, fault_number};
 ghost use Rattle.column.specs.Place.{after, placed, put};
@@ -50,28 +50,24 @@ fn ends_after(bytes: &[u8], at: usize, count: usize) -> bool
     line_fits(bytes, at, count) && first_newline(&bytes[at..]) == Some(WIDTH * count)
 }
 
-// Whether each of the columns from a place on is a number.
-fn all_numbers(bytes: &[u8], at: usize, count: usize) -> bool
-    requires { at + 11 * count ≤ length bytes.now }
-    ensures { result ≡ numbers count (drop at bytes.now) }
+// Whether each of the columns is a number.
+fn all_numbers(columns: &[u8]) -> bool
+    ensures { result ≡ numbers (length columns.now / 11) columns.now }
 {
-    for i in 0..count {
-        let from = at + WIDTH * i;
-        if read_column(&bytes[from..from + WIDTH]).is_none() {
-            return false;
-        }
-    }
-    true
+    columns
+        .chunks_exact(WIDTH)
+        .all(|column| read_column(column).is_some())
 }
 
-// Writes the numbers of the columns from a place on into the words.
-fn take_words(bytes: &[u8], at: usize, words: &mut [u32])
-    requires { at + 11 * length words.old ≤ length bytes.now }
-    ensures { words.new ≡ values (length words.old) (drop at bytes.now) }
+// Writes the numbers of the columns into the words.
+fn take_words(columns: &[u8], words: &mut [u32])
+    requires { length columns.now ≡ 11 * length words.old }
+    ensures { words.new ≡ values (length words.old) columns.now }
 {
+    // By index: after an adapter of iter_mut a proof knows nothing of the words.
     for i in 0..words.len() {
-        let from = at + WIDTH * i;
-        words[i] = read_column(&bytes[from..from + WIDTH]).unwrap_or(0);
+        let from = WIDTH * i;
+        words[i] = read_column(&columns[from..from + WIDTH]).unwrap_or(0);
     }
 }
 
@@ -82,15 +78,16 @@ pub fn read_line(bytes: &[u8], at: usize, words: &mut [u32]) -> Result<usize, Li
     ensures exact { LineTaken bytes.now at words.old words.new result }
     ensures inside { IfOk result (λ place. place ≤ length bytes.now) }
 {
-    let count = words.len();
-    if !ends_after(bytes, at, count) {
+    if !ends_after(bytes, at, words.len()) {
         return Err(LineFault::WrongLength);
     }
-    if !all_numbers(bytes, at, count) {
+    let end = at + WIDTH * words.len();
+    let columns = &bytes[at..end];
+    if !all_numbers(columns) {
         return Err(LineFault::NotANumber);
     }
-    take_words(bytes, at, words);
-    Ok(at + WIDTH * count + 1)
+    take_words(columns, words);
+    Ok(end + 1)
 }
 
 // Writes the columns of the words at a place that has room for them.

@@ -61,13 +61,13 @@ fn put_digits(part: &mut [u8], number: u32) -> usize
     ensures place { result + length (decimal number) ≡ 11 }
     ensures digits { drop result part.new ≡ decimal number }
 {
+    // By hand: what std promises of formatted text leaves open that a text that fits is cut, or that writing it fails.
     let mut rest = number;
     let mut place = WIDTH;
     while rest >= 10 {
-        let tens = rest / 10;
         place -= 1;
-        part[place] = b'0' + (rest - tens * 10) as u8;
-        rest = tens;
+        part[place] = b'0' + (rest % 10) as u8;
+        rest /= 10;
     }
     place -= 1;
     part[place] = b'0' + rest as u8;
