@@ -95,8 +95,8 @@ fn put_columns(out: &mut [u8], at: usize, words: &[u32])
     requires { at + 11 * length words.now ≤ length out.old }
     ensures { out.new ≡ put out.old at (columns words.now) }
 {
-    for i in 0..words.len() {
-        put_column(out, at + WIDTH * i, words[i]);
+    for (i, word) in words.iter().enumerate() {
+        put_column(out, at + WIDTH * i, *word);
     }
 }
 
