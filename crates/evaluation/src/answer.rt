@@ -22,10 +22,9 @@ fn answer_basis<F: Field>(
     field: &F,
     header: Header<'_>,
     n: usize,
-    out: &mut [u8],
+    out: &mut [u8; LONGEST_TEXT],
 ) -> Result<usize, ProbeFault>
     requires few { n ≤ 4 }
-    requires room { 8192 ≤ length out.old }
     ensures wrote { Wrote result (outcome_over (F.Field.meaning field.now) n header.entry.count (next 4 header.entry.text.now)) out.old out.new }
 {
     let first = Reader {
@@ -56,9 +55,8 @@ fn one_to_four(w: u32) -> bool
 fn answer_header<F: Field>(
     field: &F,
     header: Header<'_>,
-    out: &mut [u8],
+    out: &mut [u8; LONGEST_TEXT],
 ) -> Result<usize, ProbeFault>
-    requires room { 8192 ≤ length out.old }
     ensures wrote { Wrote result (outcome_with (F.Field.meaning field.now) header.entry.order header.entry.n header.entry.count (next 4 header.entry.text.now)) out.old out.new }
 {
     if !one_to_four(header.order) {
@@ -71,8 +69,7 @@ fn answer_header<F: Field>(
 }
 
 // Asks a whole text and writes the values.
-fn answer_text(text: &[u8], out: &mut [u8]) -> Result<usize, ProbeFault>
-    requires room { 8192 ≤ length out.old }
+fn answer_text(text: &[u8], out: &mut [u8; LONGEST_TEXT]) -> Result<usize, ProbeFault>
     ensures wrote { Wrote result (outcome text.now) out.old out.new }
 {
     if text.len() > LONGEST_TEXT {
@@ -104,14 +101,12 @@ pub fn answer_to(text: &[u8], out: &mut [u8]) -> Option<usize>
     ensures no_room { length out.old < 8192 → (result ≡ None) × (out.new ≡ out.old) }
     ensures answer { 8192 ≤ length out.old → (result ≡ Some (length (answer text.now))) × (out.new ≡ put out.old 0 (answer text.now)) }
 {
-    if out.len() < LONGEST_TEXT {
-        return None;
-    }
-    match answer_text(text, out) {
+    let front: &mut [u8; LONGEST_TEXT] = out.first_chunk_mut()?;
+    match answer_text(text, front) {
         Ok(end) => Some(end),
         Err(fault) => {
             let report = fault.report();
-            write_line(out, 0, &report)
+            write_line(front, 0, &report)
         }
     }
 }
