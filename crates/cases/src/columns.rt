@@ -1,5 +1,5 @@
 // Columns and lines by example: what reads, what is refused, and what is written where.
-use column::{LineFault, read_column, read_line, write_column, write_line};
+use column::{LineFault, Place, read_column, read_line, write_column, write_line};
 
 #[test]
 fn columns(rt: HostRuntime) {
@@ -46,4 +46,20 @@ fn lines(rt: HostRuntime) {
     assert_eq!(rt; write_line(&mut out, 4, &[7, 1]), None);
     assert_eq!(rt; write_line(&mut out, 1, &[7, 1]), Some(24));
     assert!(rt; out == *b"-          7          1\n--");
+}
+
+#[test]
+fn places(rt: HostRuntime) -> Result<(), LineFault> {
+    let text = b"          7          1\n         07\n";
+    let mut words = [0; 2];
+    let second = Place::START.read_line(text, &mut words)?;
+    assert_eq!(rt; words, [7, 1]);
+    assert_eq!(rt; second, Place { at: 23, line: 2 });
+    let mut word = [5];
+    assert_eq!(rt;
+        second.read_line(text, &mut word),
+        Err(LineFault::NotANumber)
+    );
+    assert_eq!(rt; word, [5]);
+    Ok(())
 }

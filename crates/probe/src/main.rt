@@ -17,10 +17,8 @@ fn read_input(rt: &HostRuntime, input: &mut [u8]) -> io::Result<usize>
 {
     let mut stdin = rt.stdin();
     let mut end = 0;
-    for _turn in 0..LONGEST_INPUT {
-        if end >= input.len() {
-            break;
-        }
+    // A loop: read_exact fails at an early end, read_to_end wants a heap, and io::copy bounds no count.
+    while end < input.len() {
         let count = stdin.read(&mut input[end..])?;
         if count == 0 {
             break;
