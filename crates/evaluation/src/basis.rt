@@ -29,16 +29,17 @@ fn ask_polynomial<'a, F: Field>(field: &F, reader: Reader<'a>) -> Result<Reader<
         (λ q. SameText reader.entry q × PolynomialPassed reader.entry.text.now (F.Field.meaning field.now) reader.entry.n reader.entry.place q.place)
         (λ e. asks_polynomial (F.Field.meaning field.now) reader.entry.n (drop reader.entry.place.at reader.entry.text.now) reader.entry.place.line ≡ Some e) }
 {
-    let mut count = [0u32; 1];
-    let first = reader.read(&mut count)?;
-    if count[0] == 0 {
+    let mut words = [0u32; 1];
+    let first = reader.read(&mut words)?;
+    let [count] = words;
+    if count == 0 {
         return Err(ProbeFault::NoTerm(reader.line()));
     }
-    let end = first.pass_terms(count[0])?;
+    let end = first.pass_terms(count)?;
     let terms = Terms {
         lines: first.lines(),
         n: first.n,
-        left: count[0],
+        left: count,
     };
     ask_terms(field, terms, reader.line())?;
     Ok(end)

@@ -21,8 +21,8 @@ pub(crate) fn term_at<F: Field>(field: &F, point: &[u32], term: &[u32; 5]) -> u3
     ensures { result ≡ term_value (F.Field.meaning field.now) (length point.now) point.now term.now }
 {
     let mut product = term[0];
-    for i in 0..point.len() {
-        product = field.mul(product, raised(field, point[i], term[i + 1]));
+    for (i, x) in point.iter().enumerate() {
+        product = field.mul(product, raised(field, *x, term[i + 1]));
     }
     product
 }
