@@ -3,15 +3,18 @@
 --   relation        nothing is left of a vector: what the row holds then
 --   inverse_there   something is left at a place: it has an inverse
 --   kept            and the row kept from it is one more row of the table
+--   failed          a vector that is not taken ends the elimination
 --   found, lost     what a solver finds
-use Rattle.std.proofs.Common.{◌≡◌, ℕ, zero, suc, ◌+◌, ◌*◌, ◌<◌, ◌≤◌, T, ◌≢◌, List, length, get_or, set, Some, None, sym, refl, ap, ◌∙◌, subst, ap₂, add-one, arith, length-set, get_or-set_same}
+use Rattle.std.proofs.Common.{◌≡◌, ℕ, zero, suc, ◌+◌, ◌*◌, ◌<◌, ◌≤◌, T, ◌≢◌, List, length, get_or, set, Some, None, Err, sym, refl, ap, ◌∙◌, subst, ap₂, add-one, arith, length-set, get_or-set_same}
 use native.Mathlib.Decide.{ℕ_discrete, dec_lt}
 use Rattle.field.specs.Meaning.{FieldMeaning, FieldLaws}
 use Rattle.algebra.specs.Field.{Field}
 use Rattle.algebra.specs.Vector.{Least, Combines}
 use Rattle.algebra.specs.Elements.{Elem, Elems, elem_path, field_of, read}
 use Rattle.linear.specs.Echelon.{reduced, Depends, Echelon, Taken}
-use Rattle.linear.specs.Elimination.{pitch, rows, Table, Growing, Relation}
+use Rattle.linear.specs.Elimination.{pitch, rows, Table, Growing, Relation, Stepped, Eliminated}
+use Rattle.linear.specs.declared.elimination.EliminateFault.{EliminateFault}
+use Rattle.linear.specs.declared.elimination.EliminateFault.TheVariants.{NoRoom, Depends as First}
 use Rattle.linear.proofs.Writes.{other, part, part_length}
 use Rattle.linear.proofs.Reading
 use Rattle.linear.proofs.WordLists
@@ -194,6 +197,10 @@ module _ (m : FieldMeaning) (laws : FieldLaws m) where
       at : (k : ℕ) → Depends F d v k → Dec (k < n) → n ≤ k
       at k D (yes h) = absurd (G.taken.fresh k h D)
       at k D (no h) = omega arith
+
+  pub failed : (d N n : ℕ) (v : ℕ → ℕ → Elem m) (table pivots row : List ℕ) (e : EliminateFault) → n < N → Stepped m laws {A = Unit {0}} d N n v table pivots row (Err e) → Eliminated m laws {A = Unit {0}} d N v table pivots row (Err e)
+  failed d N n v table pivots row NoRoom h s = s
+  failed d N n v table pivots row (First j) h (e, G, r) = rw e (h, first_of d N n v table pivots row G r, table_of d N n v table pivots (omega arith) G, r)
 
   pub nothing_taken : (d N : ℕ) (v : ℕ → ℕ → Elem m) (table pivots : List ℕ) → Growing m laws d N 0 v table pivots
   nothing_taken d N v table pivots = record { elements = λ i k a b. absurd (omega arith); taken = Eliminate.none_taken F d N v _ _ }

@@ -13,17 +13,15 @@
 --   Eliminated m laws d n v .. a         what the elimination of v 0 .. v (n - 1) answers
 --   Solved m laws d n v b out a          what the solver answers for the words b over v 0 .. v (n - 1)
 -- Used by: the contracts of the elimination.
-use Rattle.std.specs.Prelude.{ℕ, zero, suc, ◌+◌, ◌-◌, ◌*◌, ◌<◌, Bool, true, ◌&&◌, T, ◌≢◌, List, length, nat_le, nat_lt, slice_index}
+use Rattle.std.specs.Prelude.{◌≡◌, ℕ, zero, suc, ◌+◌, ◌-◌, ◌*◌, ◌<◌, Bool, true, ◌&&◌, T, ◌≢◌, List, length, Ok, Err, Result, nat_le, nat_lt, slice_index}
 use Rattle.field.specs.Meaning.{FieldMeaning, FieldLaws}
 use Rattle.algebra.specs.Vector.{Least, Combines, Independent}
 use Rattle.algebra.specs.Elements.{Elem, Elems, field_of, read}
 use Rattle.linear.specs.Echelon.{Depends, Echelon, Taken}
-use Rattle.linear.specs.declared.elimination.Taking.{Taking}
-use Rattle.linear.specs.declared.elimination.Taking.TheVariants.{Kept, Depends as Combined, Stuck}
-use Rattle.linear.specs.declared.elimination.Dependence.{Dependence}
-use Rattle.linear.specs.declared.elimination.Dependence.TheVariants.{Nowhere, At, Refused}
-use Rattle.linear.specs.declared.elimination.Solution.{Solution}
-use Rattle.linear.specs.declared.elimination.Solution.TheVariants.{Found, Outside, Refused as Unasked}
+use Rattle.linear.specs.declared.elimination.EliminateFault.{EliminateFault}
+use Rattle.linear.specs.declared.elimination.EliminateFault.TheVariants.{NoRoom, Depends as First}
+use Rattle.linear.specs.declared.elimination.SolveFault.{SolveFault}
+use Rattle.linear.specs.declared.elimination.SolveFault.TheVariants.{NoRoom as Unasked, Outside}
 
 abbrev pub pitch : ℕ
 pitch = 96
@@ -61,17 +59,17 @@ module _ (m : FieldMeaning) (laws : FieldLaws m) where
     pub elements : (l : ℕ) → l < n → T (m.elem (slice_index row (d + l)))
     pub combines : Combines (field_of m laws) d n (λ l. (field_of m laws).neg (read m laws row (d + l))) v (v n)
 
-  abbrev pub Stepped : ℕ → ℕ → ℕ → (ℕ → ℕ → Elem m) → List ℕ → List ℕ → List ℕ → Taking → Type 0
-  Stepped d N n v table pivots row Kept = Growing d N (n + 1) v table pivots
-  Stepped d N n v table pivots row Combined = Growing d N n v table pivots × Relation d n v row
-  Stepped d N n v table pivots row Stuck = ⊥
+  abbrev pub Stepped : {A : Type 0} → ℕ → ℕ → ℕ → (ℕ → ℕ → Elem m) → List ℕ → List ℕ → List ℕ → Result A EliminateFault → Type 0
+  Stepped d N n v table pivots row (Ok _) = Growing d N (n + 1) v table pivots
+  Stepped d N n v table pivots row (Err (First j)) = (j ≡ n) × Growing d N n v table pivots × Relation d n v row
+  Stepped d N n v table pivots row (Err NoRoom) = ⊥
 
-  abbrev pub Eliminated : ℕ → ℕ → (ℕ → ℕ → Elem m) → List ℕ → List ℕ → List ℕ → Dependence → Type 0
-  Eliminated d n v table pivots row Nowhere = ((i : ℕ) → i < n → Depends (field_of m laws) d v i → ⊥) × Table d n v table pivots
-  Eliminated d n v table pivots row (At j) = (j < n) × Least (Depends (field_of m laws) d v) j × Table d j v table pivots × Relation d j v row
-  Eliminated d n v table pivots row Refused = ⊥
+  abbrev pub Eliminated : {A : Type 0} → ℕ → ℕ → (ℕ → ℕ → Elem m) → List ℕ → List ℕ → List ℕ → Result A EliminateFault → Type 0
+  Eliminated d n v table pivots row (Ok _) = ((i : ℕ) → i < n → Depends (field_of m laws) d v i → ⊥) × Table d n v table pivots
+  Eliminated d n v table pivots row (Err (First j)) = (j < n) × Least (Depends (field_of m laws) d v) j × Table d j v table pivots × Relation d j v row
+  Eliminated d n v table pivots row (Err NoRoom) = ⊥
 
-  abbrev pub Solved : ℕ → ℕ → (ℕ → ℕ → Elem m) → List ℕ → List ℕ → Solution → Type 0
-  Solved d n v b out Found = Elems m out × Combines (field_of m laws) d n (read m laws out) v (read m laws b)
-  Solved d n v b out Outside = (n ≢ d) × ((c : ℕ → Elem m) → Combines (field_of m laws) d n c v (read m laws b) → ⊥)
-  Solved d n v b out Unasked = ⊥
+  abbrev pub Solved : {A : Type 0} → ℕ → ℕ → (ℕ → ℕ → Elem m) → List ℕ → List ℕ → Result A SolveFault → Type 0
+  Solved d n v b out (Ok _) = Elems m out × Combines (field_of m laws) d n (read m laws out) v (read m laws b)
+  Solved d n v b out (Err Outside) = (n ≢ d) × ((c : ℕ → Elem m) → Combines (field_of m laws) d n c v (read m laws b) → ⊥)
+  Solved d n v b out (Err Unasked) = ⊥

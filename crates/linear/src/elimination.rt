@@ -2,11 +2,10 @@
 // those before it, and the coefficients of a vector over independent ones.
 // Works in a table, pivots and a row that the caller lends, and touches nothing else but the part of
 // the output that is lent for a solution.
-ghost use Rattle.std.specs.Prelude.{◌≡◌, ℕ, ◌+◌, ◌*◌, ◌<◌, ◌≤◌, true, false, ◌≢◌, length, slice_index};
+ghost use Rattle.std.specs.Prelude.{◌≡◌, ℕ, ◌+◌, ◌*◌, ◌<◌, ◌≤◌, true, false, ◌≢◌, length, Err, OnOk, OnErr, IsErrOf, slice_index};
 ghost use Rattle.field.specs.Meaning.{FieldLaws};
 ghost use Rattle.algebra.specs.Elements.{Elem, Elems};
 ghost use Rattle.linear.specs.Elimination.{pitch, roomy, covers, fits, below, solvable, rows, Table, Growing, Stepped, Eliminated, Solved};
-ghost use Rattle.linear.specs.declared.elimination.Taking.TheVariants.{Kept};
 
 mod rows;
 
@@ -23,29 +22,19 @@ pub struct Family<'a> {
     pub count: usize,
 }
 
-// Where a family first depends on the vectors before.
-#[derive(Clone, Copy)]
-pub enum Dependence {
-    Nowhere,
-    At(usize),
-    Refused,
+// Why not all vectors of a family were taken: what was lent does not fit or a word is no element, or
+// the vector at a place is the first that depends on those before it.
+#[derive(Clone, Copy, PartialEq, Eq, Debug)]
+pub enum EliminateFault {
+    NoRoom,
+    Depends(usize),
 }
 
-// Whether a vector is a combination.
-#[derive(Clone, Copy)]
-pub enum Solution {
-    Found,
+// Why a vector was not solved for: what was lent does not fit, or the vector is no combination.
+#[derive(Clone, Copy, PartialEq, Eq, Debug)]
+pub enum SolveFault {
+    NoRoom,
     Outside,
-    Refused,
-}
-
-// What becomes of a vector: a row of its own, nothing but a combination of those before, or, where a
-// word is no element, a remainder without an inverse.
-#[derive(Clone, Copy)]
-enum Taking {
-    Kept,
-    Depends,
-    Stuck,
 }
 
 // Whether what is lent has room for so many rows of so many places, with as many coordinates.
@@ -87,28 +76,28 @@ fn take<F: Field>(
     table: &mut [u32],
     pivots: &mut [usize],
     row: &mut [u32],
-) -> Taking
+) -> Result<(), EliminateFault>
     requires covered { n * family.stride + family.places ≤ length family.words.now }
     requires width { length row.old ≤ pitch }
     requires coordinate { family.places + n < length row.old }
     requires rows { n * pitch + pitch ≤ length table.old }
     requires pivots { n < length pivots.old }
     requires within { (i : ℕ) → i < n → slice_index pivots.old i < family.places }
-    ensures within { result ≡ Kept → (i : ℕ) → i < n + 1 → slice_index pivots.new i < family.entry.places }
+    ensures within { OnOk result ((i : ℕ) → i < n + 1 → slice_index pivots.new i < family.entry.places) }
     ensures stepped { (laws : FieldLaws (F.Field.meaning field.now)) (N : ℕ) → n < N → family.entry.places + N ≤ length row.old → Elems (F.Field.meaning field.now) family.entry.words.now → Growing (F.Field.meaning field.now) laws family.entry.places N n (rows (F.Field.meaning field.now) laws family.entry.stride family.entry.words.now) table.old pivots.old → Stepped (F.Field.meaning field.now) laws family.entry.places N n (rows (F.Field.meaning field.now) laws family.entry.stride family.entry.words.now) table.new pivots.new row.new result }
 {
     let start = n * family.stride;
     let vector = &family.words[start..start + family.places];
     let Some(place) = rows::remainder(field, table, pivots, n, vector, row) else {
-        return Taking::Depends;
+        return Err(EliminateFault::Depends(n));
     };
     let Some(q) = field.inverse(row[place]) else {
-        return Taking::Stuck;
+        return Err(EliminateFault::NoRoom);
     };
     row[family.places + n] = field.one();
     rows::keep(field, table, n * PITCH, row, q);
     pivots[n] = place;
-    Taking::Kept
+    Ok(())
 }
 
 // Takes the vectors of a family one after the other, until one depends on those before it. The table
@@ -119,8 +108,8 @@ pub fn eliminate<F: Field>(
     table: &mut [u32],
     pivots: &mut [usize],
     row: &mut [u32],
-) -> Dependence
-    ensures refused { fits family.entry.places family.entry.count family.entry.stride (length family.entry.words.now) (length table.old) (length pivots.old) (length row.old) ≡ false → (result ≡ Dependence.Refused) × (table.new ≡ table.old) × (pivots.new ≡ pivots.old) × (row.new ≡ row.old) }
+) -> Result<(), EliminateFault>
+    ensures refused { fits family.entry.places family.entry.count family.entry.stride (length family.entry.words.now) (length table.old) (length pivots.old) (length row.old) ≡ false → IsErrOf result EliminateFault.NoRoom × (table.new ≡ table.old) × (pivots.new ≡ pivots.old) × (row.new ≡ row.old) }
     ensures eliminated { fits family.entry.places family.entry.count family.entry.stride (length family.entry.words.now) (length table.old) (length pivots.old) (length row.old) ≡ true → (laws : FieldLaws (F.Field.meaning field.now)) → Elems (F.Field.meaning field.now) family.entry.words.now → Eliminated (F.Field.meaning field.now) laws family.entry.places family.entry.count (rows (F.Field.meaning field.now) laws family.entry.stride family.entry.words.now) table.new pivots.new row.new result }
 {
     if !has_room(
@@ -130,7 +119,7 @@ pub fn eliminate<F: Field>(
         pivots.len(),
         row.len(),
     ) {
-        return Dependence::Refused;
+        return Err(EliminateFault::NoRoom);
     }
     if !is_covered(
         family.places,
@@ -138,16 +127,12 @@ pub fn eliminate<F: Field>(
         family.stride,
         family.words.len(),
     ) {
-        return Dependence::Refused;
+        return Err(EliminateFault::NoRoom);
     }
     for n in 0..family.count {
-        match take(field, family, n, table, pivots, row) {
-            Taking::Kept => {}
-            Taking::Depends => return Dependence::At(n),
-            Taking::Stuck => return Dependence::Refused,
-        }
+        take(field, family, n, table, pivots, row)?;
     }
-    Dependence::Nowhere
+    Ok(())
 }
 
 // Writes into `out` the coefficients by which the vectors that an elimination took combine to the
@@ -159,22 +144,22 @@ pub fn solve<F: Field>(
     vector: &[u32],
     row: &mut [u32],
     out: &mut [u32],
-) -> Solution
-    ensures refused { solvable (length vector.now) (length out.old) (length table.now) pivots.now (length row.old) ≡ false → (result ≡ Solution.Refused) × (row.new ≡ row.old) }
-    ensures answered { solvable (length vector.now) (length out.old) (length table.now) pivots.now (length row.old) ≡ true → result ≢ Solution.Refused }
-    ensures unwritten { result ≢ Solution.Found → out.new ≡ out.old }
+) -> Result<(), SolveFault>
+    ensures refused { solvable (length vector.now) (length out.old) (length table.now) pivots.now (length row.old) ≡ false → IsErrOf result SolveFault.NoRoom × (row.new ≡ row.old) }
+    ensures answered { solvable (length vector.now) (length out.old) (length table.now) pivots.now (length row.old) ≡ true → result ≢ Err SolveFault.NoRoom }
+    ensures unwritten { OnErr result (out.new ≡ out.old) }
     ensures solved { roomy (length vector.now) (length out.old) (length table.now) (length pivots.now) (length row.old) ≡ true → (laws : FieldLaws (F.Field.meaning field.now)) (v : ℕ → ℕ → Elem (F.Field.meaning field.now)) → Elems (F.Field.meaning field.now) vector.now → Table (F.Field.meaning field.now) laws (length vector.now) (length out.old) v table.now pivots.now → Solved (F.Field.meaning field.now) laws (length vector.now) (length out.old) v vector.now out.new result }
 {
     let count = out.len();
     if !has_room(vector.len(), count, table.len(), pivots.len(), row.len()) {
-        return Solution::Refused;
+        return Err(SolveFault::NoRoom);
     }
     if !are_places(pivots, count, vector.len()) {
-        return Solution::Refused;
+        return Err(SolveFault::NoRoom);
     }
     if let Some(_) = rows::remainder(field, table, pivots, count, vector, row) {
-        return Solution::Outside;
+        return Err(SolveFault::Outside);
     }
     rows::opposites(field, row, vector.len(), out);
-    Solution::Found
+    Ok(())
 }

@@ -1,7 +1,7 @@
 // The matrix step: a multiplication matrix, held as places and border columns, times a vector. The
 // matrix is never stored dense: what lies in the staircase is added without a product, and zero
 // words are skipped.
-ghost use Rattle.std.specs.Prelude.{◌≡◌, ℕ, ◌<◌, false, T, ◌↔◌, length, take, drop, slice_index, slice_index_or};
+ghost use Rattle.std.specs.Prelude.{◌≡◌, ℕ, ◌<◌, T, ◌↔◌, length, take, drop, IsOk, OnOk, OnErr, slice_index, slice_index_or};
 ghost use Rattle.algebra.specs.Elements.{Elems};
 ghost use Rattle.linear.specs.Step.{Within, Fits, entry, product_words, Stepped};
 ghost use Rattle.linear.specs.declared.step.Place.TheVariants.{Stair};
@@ -16,6 +16,10 @@ pub enum Place {
     Stair(u8),
     Border(u8),
 }
+
+// What was lent does not fit: words or places are missing, or a place lies outside.
+#[derive(Clone, Copy, PartialEq, Eq, Debug)]
+pub struct Misfit;
 
 impl Place {
     // Whether it is one of `d` places of the staircase, or has `d` words in columns of `room` words.
@@ -106,14 +110,14 @@ pub fn step<F: Field>(
     stride: usize,
     v: &[u32],
     out: &mut [u32],
-) -> bool
-    ensures fits { T result ↔ Fits d places.now (length columns.now) stride (length v.now) (length out.old) }
-    ensures refused_as_was { result ≡ false → out.new ≡ out.old }
+) -> Result<(), Misfit>
+    ensures fits { IsOk result ↔ Fits d places.now (length columns.now) stride (length v.now) (length out.old) }
+    ensures refused_as_was { OnErr result (out.new ≡ out.old) }
     ensures rest_unchanged { drop d out.new ≡ drop d out.old }
-    ensures stepped { T result → Elems (F.Field.meaning field.now) (take d v.now) → Stepped (F.Field.meaning field.now) d places.now columns.now stride v.now out.new }
+    ensures stepped { OnOk result (Elems (F.Field.meaning field.now) (take d v.now) → Stepped (F.Field.meaning field.now) d places.now columns.now stride v.now out.new) }
 {
     if !fits(d, places, columns.len(), stride, v.len(), out.len()) {
-        return false;
+        return Err(Misfit);
     }
     fill_product(
         field,
@@ -123,5 +127,5 @@ pub fn step<F: Field>(
         &v[0..d],
         &mut out[0..d],
     );
-    true
+    Ok(())
 }

@@ -1,7 +1,8 @@
-use Rattle.std.proofs.Common.{◌≡◌, sym, refl, subst, arith}
+use Rattle.std.proofs.Common.{◌≡◌, sym, subst, arith}
+use Rattle.std.proofs.lemmas.Result.{err_from_is_err_and}
 use Rattle.linear.specs.Elimination.{rows, Growing}
 use Rattle.linear.proofs.Room.{has_room, reaches, both_passed}
-use Rattle.linear.proofs.Carry.{nothing_taken, table_of, first_of}
+use Rattle.linear.proofs.Carry.{nothing_taken, table_of, failed}
 use Rattle.linear.proofs.elimination.eliminate.Goals as goal
 
 pub loop-n-init : goal.loop-n-init
@@ -19,27 +20,19 @@ take-requires g c =
       within = c.loop-n.invariant.1;
     }
 
-pub returns-in-Depends : goal.returns-in-Depends
-returns-in-Depends g c = record {
+pub returns-in_err-take : goal.returns-in_err-take
+returns-in_err-take g c = record {
   refused = λ e. absurd (both_passed _ _ (sym c.if-not-has_room.ensures) (sym c.if-not-is_covered.ensures) e);
   eliminated = λ h laws given.
       let room = c.loop-n.invariant.0 in
-      let s = c.in-Depends.ensures.stepped laws _ c.loop-n-test.true (omega arith) given (c.loop-n.invariant.2 laws given) in
-      (c.loop-n-test.true, first_of _ laws _ _ _ _ _ _ _ s.0 s.1, table_of _ laws _ _ _ _ _ _ (omega arith) s.0, s.1);
-}
-
-pub returns-in-Stuck : goal.returns-in-Stuck
-returns-in-Stuck g c = record {
-  refused = λ e. absurd (both_passed _ _ (sym c.if-not-has_room.ensures) (sym c.if-not-is_covered.ensures) e);
-  eliminated = λ h laws given.
-      let room = c.loop-n.invariant.0 in
-      c.in-Stuck.ensures.stepped laws _ c.loop-n-test.true (omega arith) given (c.loop-n.invariant.2 laws given);
+      let p = err_from_is_err_and c.from_residual.result c.from_residual.ensures.1 in
+      rw p.1 (failed _ laws _ _ _ _ _ _ _ p.0 c.loop-n-test.true (rw p.2 (c.in_err-take.ensures.stepped laws _ c.loop-n-test.true (omega arith) given (c.loop-n.invariant.2 laws given))));
 }
 
 pub loop-n-preserved : goal.loop-n-preserved
 loop-n-preserved g c =
     let room = c.loop-n.invariant.0 in
-    (room, c.in-Kept.ensures.within refl, λ laws given. c.in-Kept.ensures.stepped laws _ c.loop-n-test.true (omega arith) given (c.loop-n.invariant.2 laws given))
+    (room, c.in_ok-take.ensures.within, λ laws given. c.in_ok-take.ensures.stepped laws _ c.loop-n-test.true (omega arith) given (c.loop-n.invariant.2 laws given))
 
 pub returns : goal.returns
 returns g c = record {

@@ -8,7 +8,7 @@ pub returns-then-not-are_places : goal.returns-then-not-are_places
 returns-then-not-are_places g c = record {
   refused = λ e. (refl, refl);
   answered = λ e f. never_both _ _ (sym c.if-not-are_places.ensures) e;
-  unwritten = λ e. refl;
+  unwritten = refl;
   solved = λ h laws v given G. both_ways _ (sym c.if-not-are_places.ensures) (all_below _ _ c.args.pivots.now G.echelon.pivot_in);
 }
 
@@ -21,7 +21,7 @@ pub returns-in-Some : goal.returns-in-Some
 returns-in-Some g c = record {
   refused = λ e. absurd (both_passed _ _ (sym c.if-not-has_room.ensures) (sym c.if-not-are_places.ensures) e);
   answered = λ e f. let z : ◌≡◌ {A = ℕ} 0 1 = cc in omega arith;
-  unwritten = λ e. refl;
+  unwritten = refl;
   solved = λ h laws v given G.
       let room = has_room (length c.args.vector.now) (length c.args.out.now) (length c.args.table.now) (length c.args.pivots.now) (length c.args.row.now) h in
       let place = c.in-Some.ensures.place in
@@ -32,7 +32,7 @@ pub returns : goal.returns
 returns g c = record {
   refused = λ e. absurd (both_passed _ _ (sym c.if-not-has_room.ensures) (sym c.if-not-are_places.ensures) e);
   answered = λ e f. let z : ◌≡◌ {A = ℕ} 0 1 = cc in omega arith;
-  unwritten = λ e. absurd (e refl);
+  unwritten = tt;
   solved = λ h laws v given G.
       let room = has_room (length c.args.vector.now) (length c.args.out.now) (length c.args.table.now) (length c.args.pivots.now) (length c.args.row.now) h in
       found _ laws _ _ v _ _ _ c.remainder.new.row refl G (omega arith) (omega arith) (omega arith) given (λ k a. c.remainder.ensures.left k (omega arith)) c.in_default.ensures.place

@@ -1,5 +1,4 @@
-use Rattle.std.proofs.Common.{sym, ◌∙◌}
-use mathlib.Core.Bool.{false≢true}
+use Rattle.std.proofs.Common.{sym, refl, ◌∙◌}
 use Rattle.linear.proofs.Columns
 use Rattle.linear.proofs.Fronts
 use Rattle.linear.proofs.step.step.Goals as goal
@@ -20,8 +19,8 @@ returns g c =
     let fit = c.if-not-fits.ensures.0 tt in
     let long = c.fill_product.auto.out ∙ Fronts.front_length c.args.out.now c.args.d fit.enough_rows in
     record {
-      fits = (λ _. fit, λ _. tt);
-      refused_as_was = λ e. absurd (false≢true (sym e));
+      fits = (λ _. fit, λ _. refl);
+      refused_as_was = tt;
       rest_unchanged = Fronts.front_drop c.fill_product.new.out c.args.out.now c.args.d long;
-      stepped = λ _. Columns.stepped (g.F.Field.meaning F) (g.met.F.Field.lawful F) (g.met.F.Field.everywhere F) c.args.d c.args.places.now c.args.columns.now c.args.stride c.args.v.now c.args.out.now c.fill_product.new.out fit long c.fill_product.ensures;
+      stepped = Columns.stepped (g.F.Field.meaning F) (g.met.F.Field.lawful F) (g.met.F.Field.everywhere F) c.args.d c.args.places.now c.args.columns.now c.args.stride c.args.v.now c.args.out.now c.fill_product.new.out fit long c.fill_product.ensures;
     }
