@@ -5,6 +5,7 @@ pub mod Tables
 pub mod Reading
 pub mod Adding
 pub mod Fronts
+pub mod Backwards
 pub mod Columns
 pub mod Turn
 pub mod Places

@@ -2,10 +2,13 @@
 --   has_room      the sizes of rows, pivots and table
 --   reaches       a vector of a family that is covered ends within its words
 --   below_all     the pivots tested are places, and back
+--   all_are_below one test of all of them says the same
 --   both_passed   two tests that passed did not fail together
-use Rattle.std.proofs.Common.{◌≡◌, ℕ, zero, suc, ◌+◌, ◌-◌, ◌*◌, ◌<◌, ◌≤◌, Bool, true, false, ◌&&◌, leb, List, get_or, refl, add-mul, one-mul, arith, ltb-true, lt-ltb, leb-true}
+use Rattle.std.proofs.Common.{◌≡◌, ℕ, zero, suc, ◌+◌, ◌-◌, ◌*◌, ◌<◌, ◌≤◌, Bool, true, false, ◌&&◌, ltb, leb, List, length, get_or, take, sym, refl, ap, ◌∙◌, add-one, add-mul, one-mul, arith, ltb-true, lt-ltb, leb-true}
 use native.Mathlib.Decide.{ℕ_discrete}
 use borrow.Author.Tests.{both_ways}
+use Rattle.std.specs.List.{list_all}
+use Rattle.std.proofs.lemmas.List.Folds.{list_all_more}
 use Rattle.std.proofs.lemmas.Nat.{mul-le}
 use Rattle.std.proofs.lemmas.Bool.{and_parts, and_from}
 use Rattle.linear.specs.Elimination.{pitch, roomy, covers, below}
@@ -44,6 +47,11 @@ below_all d (suc n) pivots h i l = at (ℕ_discrete i n) (below_all d n pivots (
 pub all_below : (d n : ℕ) (pivots : List ℕ) → ((i : ℕ) → i < n → get_or pivots i 0 < d) → below d n pivots ≡ true
 all_below d zero pivots h = refl
 all_below d (suc n) pivots h = and_from _ _ (all_below d n pivots (λ i l. h i (omega arith))) (lt-ltb _ _ (h n (omega arith)))
+
+-- the test of the first pivots, taken one after the other
+pub all_are_below : (d n : ℕ) (pivots : List ℕ) → n ≤ length pivots → list_all (λ p. ltb p d) (take n pivots) ≡ below d n pivots
+all_are_below d zero pivots h = refl
+all_are_below d (suc n) pivots h = ap (λ k. list_all (λ p. ltb p d) (take k pivots)) (sym (add-one n)) ∙ list_all_more (λ p. ltb p d) pivots n 0 h ∙ ap (λ b. b && ltb (get_or pivots n 0) d) (all_are_below d n pivots (omega arith))
 
 -- two tests that passed did not fail together
 pub both_passed : (a b : Bool) → a ≡ true → b ≡ true → (a && b) ≡ false → ⊥

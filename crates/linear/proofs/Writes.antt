@@ -2,8 +2,10 @@
 --   each        what holds of each word written, by its place, holds after the next is written
 --   put         the same where each word written is given, and from a place on
 --   other       a word that is not written stays
+--   padded      words with one word after them, so often
 --   part        the words lent by a range, with their number and each of them
-use Rattle.std.proofs.Common.{◌≡◌, ℕ, ◌+◌, ◌-◌, ◌<◌, ◌≤◌, ◌≢◌, List, length, get_or, take, drop, set, arith, length-drop, length-take, get_or-drop, get_or-set_other, get_or-take, get_or-set_same, below_more}
+use Rattle.std.proofs.Common.{◌≡◌, ℕ, zero, suc, ◌+◌, ◌-◌, ◌<◌, ◌≤◌, ◌≢◌, List, [], ◌∷◌, ◌++◌, length, get_or, take, drop, replicate, set, refl, arith, length-drop, length-take, get_or-drop, get_or-set_other, get_or-take, get_or-set_same, below_more}
+use Rattle.std.proofs.lemmas.List.{get_or-replicate}
 
 module _ (xs : List ℕ) (i w : ℕ) where
   pub each : (P : ℕ → ℕ → Type 0) → i < length xs → ((k : ℕ) → k < i → P k (get_or xs k 0)) → P i w → (k : ℕ) → k < i + 1 → P k (get_or (set xs i w) k 0)
@@ -23,6 +25,11 @@ put_from xs s i w f l below here =
     below_more _ _
     (λ k h. let ne : s + k ≢ s + i = omega arith in rw get_or-set_other (below k h))
     (rw get_or-set_same here)
+
+pub padded : (xs : List ℕ) (n z k : ℕ) → k < length xs + n → get_or (xs ++ replicate n z) k 0 ≡ get_or xs k z
+padded [] n z k h = get_or-replicate n k z 0 (omega arith)
+padded (x ∷ xs) n z zero h = refl
+padded (x ∷ xs) n z (suc k) h = padded xs n z k (omega arith)
 
 abbrev pub part : ℕ → ℕ → List ℕ → List ℕ
 part start size xs = take (start + size - start) (drop start xs)

@@ -11,8 +11,8 @@ pub fn dot<F: Field>(field: &F, a: &[u32], b: &[u32]) -> u32
     ensures is_element { T ((F.Field.meaning field.now).elem result) }
 {
     let mut sum = field.zero();
-    for i in 0..a.len().min(b.len()) {
-        sum = field.add(sum, field.mul(a[i], b[i]));
+    for (x, y) in a.iter().zip(b) {
+        sum = field.add(sum, field.mul(*x, *y));
     }
     sum
 }

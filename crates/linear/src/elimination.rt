@@ -61,11 +61,7 @@ fn are_places(pivots: &[usize], count: usize, places: usize) -> bool
     requires { count ≤ length pivots.now }
     ensures { result ≡ below places count pivots.now }
 {
-    let mut all = true;
-    for i in 0..count {
-        all = all & (pivots[i] < places);
-    }
-    all
+    pivots[..count].iter().all(|pivot| *pivot < places)
 }
 
 // Takes the vector n of a family after those before it.

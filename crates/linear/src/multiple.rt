@@ -11,7 +11,8 @@ pub fn add_multiple<F: Field>(field: &F, word: u32, from: &[u32], to: &mut [u32]
     ensures sums { to.new ≡ added (F.Field.meaning field.now) word from.now to.old }
     ensures elements { Elems (F.Field.meaning field.now) to.old → Elems (F.Field.meaning field.now) to.new }
 {
-    for i in 0..from.len().min(to.len()) {
-        to[i] = field.add(to[i], field.mul(word, from[i]));
+    let both = from.len().min(to.len());
+    for (i, x) in from[..both].iter().enumerate() {
+        to[i] = field.add(to[i], field.mul(word, *x));
     }
 }

@@ -25,8 +25,8 @@ fn discrepancy<F: Field>(field: &F, c: &[u32], s: &[u32], l: usize, n: usize) ->
     ensures { result ≡ sum_words (F.Field.meaning field.now) (l + 1) (λ i. (F.Field.meaning field.now).mul (slice_index c.now i) (slice_index s.now (n - i))) }
 {
     let mut sum = field.zero();
-    for i in 0..l + 1 {
-        sum = field.add(sum, field.mul(c[i], s[n - i]));
+    for (x, y) in c[..l + 1].iter().zip(s[..n + 1].iter().rev()) {
+        sum = field.add(sum, field.mul(*x, *y));
     }
     sum
 }

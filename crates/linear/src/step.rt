@@ -27,11 +27,10 @@ impl Place {
         ensures { T result ↔ Within d room stride self }
     {
         match self {
-            Place::Stair(p) => (p as usize) < d,
-            Place::Border(c) => match (c as usize).checked_mul(stride) {
-                Some(start) => start <= room && d <= room - start,
-                None => false,
-            },
+            Place::Stair(p) => usize::from(p) < d,
+            Place::Border(c) => usize::from(c)
+                .checked_mul(stride)
+                .is_some_and(|start| start <= room && d <= room - start),
         }
     }
 }
@@ -40,15 +39,12 @@ impl Place {
 fn fits(d: usize, places: &[Place], room: usize, stride: usize, words: usize, rows: usize) -> bool
     ensures { T result ↔ Fits d places.now room stride words rows }
 {
-    if d > places.len() || d > words || d > rows {
-        return false;
-    }
-    for i in 0..d {
-        if !places[i].is_within(d, room, stride) {
-            return false;
-        }
-    }
-    true
+    d <= places.len()
+        && d <= words
+        && d <= rows
+        && places[..d]
+            .iter()
+            .all(|place| place.is_within(d, room, stride))
 }
 
 // Adds `word` times the column at `place`: nothing where the word is zero, the word itself where the
@@ -69,11 +65,11 @@ fn add_column<F: Field>(
     }
     match place {
         Place::Stair(p) => {
-            let p = p as usize;
+            let p = usize::from(p);
             out[p] = field.add(out[p], word);
         }
         Place::Border(c) => {
-            let start = c as usize * stride;
+            let start = usize::from(c) * stride;
             add_multiple(field, word, &columns[start..start + out.len()], out);
         }
     }
@@ -94,8 +90,8 @@ fn fill_product<F: Field>(
     ensures { Elems (F.Field.meaning field.now) v.now → out.new ≡ product_words (F.Field.meaning field.now) (length places.now) places.now columns.now stride v.now }
 {
     out.fill(field.zero());
-    for i in 0..places.len() {
-        add_column(field, v[i], places[i], columns, stride, out);
+    for (place, word) in places.iter().zip(v) {
+        add_column(field, *word, *place, columns, stride, out);
     }
 }
 

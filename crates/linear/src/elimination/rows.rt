@@ -16,10 +16,9 @@ pub(super) fn begin<F: Field>(field: &F, row: &mut [u32], vector: &[u32])
     requires { length vector.now ≤ length row.old }
     ensures { (k : ℕ) → k < length row.old → slice_index row.new k ≡ slice_index_or vector.now k (F.Field.meaning field.now).zero }
 {
-    let zero = field.zero();
-    for k in 0..row.len() {
-        row[k] = if k < vector.len() { vector[k] } else { zero };
-    }
+    let (front, rest) = row.split_at_mut(vector.len());
+    front.copy_from_slice(vector);
+    rest.fill(field.zero());
 }
 
 // The first place, of so many, whose word is not zero.
@@ -28,12 +27,7 @@ pub(super) fn first_nonzero<F: Field>(field: &F, row: &[u32], places: usize) -> 
     ensures { elim result [ Some p ↦ (p < places) × (slice_index row.now p ≢ (F.Field.meaning field.now).zero) × ((k : ℕ) → k < p → slice_index row.now k ≡ (F.Field.meaning field.now).zero) | None ↦ (k : ℕ) → k < places → slice_index row.now k ≡ (F.Field.meaning field.now).zero ] }
 {
     let zero = field.zero();
-    for k in 0..places {
-        if row[k] != zero {
-            return Some(k);
-        }
-    }
-    None
+    row[..places].iter().position(|word| *word != zero)
 }
 
 // Writes `q` times each word of the row into the table, from the word `start` on.
@@ -42,8 +36,8 @@ pub(super) fn keep<F: Field>(field: &F, table: &mut [u32], start: usize, row: &[
     ensures before { (j : ℕ) → j < start → slice_index table.new j ≡ slice_index table.old j }
     ensures kept { (k : ℕ) → k < length row.now → slice_index table.new (start + k) ≡ (F.Field.meaning field.now).mul q (slice_index row.now k) }
 {
-    for k in 0..row.len() {
-        table[start + k] = field.mul(q, row[k]);
+    for (k, word) in row.iter().enumerate() {
+        table[start + k] = field.mul(q, *word);
     }
 }
 
@@ -52,8 +46,8 @@ pub(super) fn opposites<F: Field>(field: &F, row: &[u32], start: usize, out: &mu
     requires { start + length out.old ≤ length row.now }
     ensures { (l : ℕ) → l < length out.old → slice_index out.new l ≡ (F.Field.meaning field.now).neg (slice_index row.now (start + l)) }
 {
-    for l in 0..out.len() {
-        out[l] = field.neg(row[start + l]);
+    for (l, word) in row[start..start + out.len()].iter().enumerate() {
+        out[l] = field.neg(*word);
     }
 }
 

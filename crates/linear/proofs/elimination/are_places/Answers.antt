@@ -1,8 +1,10 @@
-use Rattle.std.proofs.Common.{◌&&◌, ltb, get_or, sym, ap, ◌∙◌, add-one}
-use Rattle.linear.specs.Elimination.{below}
+use Rattle.std.proofs.Common.{ltb, take, ◌∙◌, rules, tests}
+use Rattle.std.proofs.lemmas.Iterator.{YieldsList-from_slice}
+use Rattle.std.proofs.lemmas.Iterator.Search.{all_from_yields_List}
+use Rattle.linear.proofs.Room.{all_are_below}
 use Rattle.linear.proofs.elimination.are_places.Goals as goal
 
-pub loop-i-preserved : goal.loop-i-preserved
-loop-i-preserved c =
-    ap (λ b. b && ltb (get_or c.args.pivots.now c.loop-i.i 0) c.args.places) c.loop-i.invariant
-    ∙ ap (λ n. below c.args.places n c.args.pivots.now) (sym (add-one c.loop-i.i))
+pub returns : goal.returns
+returns c =
+    all_from_yields_List (λ p. ltb p c.args.places) _ _ _ c.all.ensures.ran (YieldsList-from_slice (take c.args.count c.args.pivots.now) cc) (λ x b q k. search (rules, tests))
+    ∙ all_are_below c.args.places c.args.count c.args.pivots.now c.requires

@@ -3,7 +3,7 @@ use Rattle.algebra.specs.Elements.{Elems}
 use Rattle.linear.specs.Step.{row_words}
 use Rattle.linear.proofs.step.fill_product.Given as goal
 
-abbrev pub invariant-loop-i : goal.invariant-loop-i
-invariant-loop-i g l =
+abbrev pub invariant-loop-place : goal.invariant-loop-place
+invariant-loop-place g l =
     Elems (g.F.Field.meaning l.field) l.v → (j : ℕ) → j < length l.places
-    → get_or l.out j 0 ≡ row_words (g.F.Field.meaning l.field) l.places l.columns l.stride l.v j l.i
+    → get_or l.out j 0 ≡ row_words (g.F.Field.meaning l.field) l.places l.columns l.stride l.v j (length l.yielded)

@@ -1,12 +1,9 @@
-use Rattle.std.proofs.Common.{get_or, sym, ◌∙◌, arith}
-use Rattle.std.proofs.lemmas.List.{get_or_default, get_or_past}
-use Rattle.linear.proofs.Writes.{put}
+use Rattle.std.proofs.Common.{ℕ, List, ◌++◌, length, get_or, ap, ◌∙◌, ap₂, arith}
+use Rattle.linear.proofs.Writes.{padded}
 use Rattle.linear.proofs.elimination.rows.begin.Goals as goal
-use Rattle.linear.proofs.elimination.rows.begin.Goals.{then-k-vector, else-k-vector}
 
-pub loop-k-preserved : goal.loop-k-preserved
-loop-k-preserved g c =
-    let k = c.loop-k.k in
-    let xs = c.args.vector.now in
-    put c.loop-k.row k _ (λ j. get_or xs j c.zero-zero.result) (omega arith) c.loop-k.invariant
-    (elim c.if-k-vector.branch [ then-k-vector w ↦ w.row-is ∙ get_or_default xs k 0 _ (omega arith) | else-k-vector w ↦ w.row-is ∙ sym (get_or_past xs k _ (omega arith)) ])
+pub returns : goal.returns
+returns g c k h =
+    ap₂ (λ (xs ys : List ℕ). get_or (xs ++ ys) k 0) c.copy_from_slice.ensures.after (c.fill.ensures.after (λ y e. e))
+    ∙ padded c.args.vector.now (length c.split_at_mut-front.result.1.now) c.zero.result k (omega arith)
+    ∙ ap (get_or c.args.vector.now k) c.zero.ensures
