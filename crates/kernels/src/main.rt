@@ -3,13 +3,11 @@
 // where the vectors first depend, and the coordinates of a vector solved from the Hankel table.
 #![tactic(auto)]
 
-ghost use Rattle.std.specs.Prelude.{◌≡◌, length};
-
 use field::{ByteField, Field, Residue};
 use linear::dot::dot;
-use linear::elimination::{Dependence, Family, Solution, eliminate, solve};
+use linear::elimination::{Echelon, EliminateFault, Family, SolveFault};
 use linear::recurrence::recurrence_length;
-use linear::step::{Place, step};
+use linear::step::{Misfit, Place, step};
 use std::io;
 
 // The matrix of a variable over a staircase of three monomials 1, x, y: x times 1 is x, the other two
@@ -25,22 +23,19 @@ fn walk<F: Field>(
     field: &F,
     columns: &[u32],
     r: &[u32],
-    start: [u32; 3],
-    vectors: &mut [u32],
-    words: &mut [u32],
-)
-    requires { (length vectors.old ≡ 18) × (length words.old ≡ 6) }
-{
+    start: [u32; SIZE],
+    vectors: &mut [u32; 18],
+    words: &mut [u32; STEPS],
+) -> Result<(), Misfit> {
     let mut v = start;
-    for j in 0..STEPS {
-        vectors[3 * j] = v[0];
-        vectors[3 * j + 1] = v[1];
-        vectors[3 * j + 2] = v[2];
-        words[j] = dot(field, r, &v);
-        let mut next = [0u32; 3];
-        let _ = step(field, SIZE, &PLACES, columns, SIZE, &v, &mut next);
+    for (vector, word) in vectors.chunks_exact_mut(SIZE).zip(words) {
+        vector.copy_from_slice(&v);
+        *word = dot(field, r, &v);
+        let mut next = [0; SIZE];
+        step(field, SIZE, &PLACES, columns, SIZE, &v, &mut next)?;
         v = next;
     }
+    Ok(())
 }
 
 fn print_words(rt: &HostRuntime, label: &str, words: &[u32]) -> io::Result<()> {
@@ -59,10 +54,11 @@ fn print_dependence<F: Field>(rt: &HostRuntime, field: &F, vectors: &[u32]) -> i
         places: SIZE,
         count: SIZE,
     };
-    match eliminate(field, family, &mut [0; 288], &mut [0; 3], &mut [0; 6]) {
-        Dependence::Nowhere => println!(rt; "vectors: independent"),
-        Dependence::At(j) => println!(rt; "vectors: {j} depends"),
-        Dependence::Refused => println!(rt; "vectors: refused"),
+    let mut echelon: Echelon<SIZE> = Echelon::new();
+    match echelon.eliminate(field, family) {
+        Ok(()) => println!(rt; "vectors: independent"),
+        Err(EliminateFault::Depends(j)) => println!(rt; "vectors: {j} depends"),
+        Err(EliminateFault::NoRoom) => println!(rt; "vectors: refused"),
     }
 }
 
@@ -79,23 +75,19 @@ fn print_solution<F: Field>(
         places: SIZE,
         count: SIZE,
     };
-    let mut table = [0; 288];
-    let mut pivots = [0; 3];
-    let mut row = [0; 6];
-    if let Dependence::At(j) = eliminate(field, family, &mut table, &mut pivots, &mut row) {
+    let mut echelon: Echelon<SIZE> = Echelon::new();
+    if let Err(EliminateFault::Depends(j)) = echelon.eliminate(field, family) {
         return println!(rt; "table: row {j} depends");
     }
-    let mut out = [0; 3];
-    match solve(field, &table, &pivots, right, &mut row, &mut out) {
-        Solution::Found => print_words(rt, "coordinates", &out),
-        Solution::Outside => println!(rt; "table: outside"),
-        Solution::Refused => println!(rt; "table: refused"),
+    let mut out = [0; SIZE];
+    match echelon.solve(field, right, &mut out) {
+        Ok(()) => print_words(rt, "coordinates", &out),
+        Err(SolveFault::Outside) => println!(rt; "table: outside"),
+        Err(SolveFault::NoRoom) => println!(rt; "table: refused"),
     }
 }
 
-fn print_recurrence<F: Field>(rt: &HostRuntime, field: &F, words: &[u32]) -> io::Result<()>
-    requires { length words.now ≡ 6 }
-{
+fn print_recurrence<F: Field>(rt: &HostRuntime, field: &F, words: &[u32; STEPS]) -> io::Result<()> {
     let mut c = [0; 7];
     match recurrence_length(field, words, &mut c, &mut [0; 7], &mut [0; 7]) {
         Some(l) => {
@@ -109,28 +101,32 @@ fn print_recurrence<F: Field>(rt: &HostRuntime, field: &F, words: &[u32]) -> io:
 fn show<F: Field>(rt: &HostRuntime, field: &F, columns: &[u32], r: &[u32]) -> io::Result<()> {
     let (zero, one) = (field.zero(), field.one());
     let mut vectors = [0; 18];
-    let mut words = [0; 6];
-    walk(
+    let mut words = [0; STEPS];
+    if let Err(Misfit) = walk(
         field,
         columns,
         r,
         [one, zero, zero],
         &mut vectors,
         &mut words,
-    );
+    ) {
+        return println!(rt; "krylov: refused");
+    }
     print_words(rt, "krylov", &vectors)?;
     print_words(rt, "sequence", &words)?;
     print_recurrence(rt, field, &words)?;
     print_dependence(rt, field, &vectors)?;
-    let mut right = [0; 6];
-    walk(
+    let mut right = [0; STEPS];
+    if let Err(Misfit) = walk(
         field,
         columns,
         r,
         [zero, zero, one],
         &mut vectors,
         &mut right,
-    );
+    ) {
+        return println!(rt; "krylov: refused");
+    }
     print_solution(rt, field, &words, &right[0..3])
 }
 

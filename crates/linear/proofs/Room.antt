@@ -1,5 +1,5 @@
 -- What the tests of the elimination say of the words lent.
---   has_room      the sizes of rows, pivots and table
+--   has_room      the places, coordinates and rows
 --   reaches       a vector of a family that is covered ends within its words
 --   below_all     the pivots tested are places, and back
 --   all_are_below one test of all of them says the same
@@ -13,21 +13,17 @@ use Rattle.std.proofs.lemmas.Nat.{mul-le}
 use Rattle.std.proofs.lemmas.Bool.{and_parts, and_from}
 use Rattle.linear.specs.Elimination.{pitch, roomy, covers, below}
 
-pub record Room (d n t p r : ℕ) : Type 0 where
-  pub narrow : r ≤ pitch
-  pub coordinates : d + n ≤ r
-  pub pivots : n ≤ p
-  pub rows : n * pitch ≤ t
+pub record Room (d n rows : ℕ) : Type 0 where
+  pub coordinates : d + n ≤ pitch
+  pub enough : n ≤ rows
 
-pub has_room : (d n t p r : ℕ) → roomy d n t p r ≡ true → Room d n t p r
-has_room d n t p r h =
+pub has_room : (d n rows : ℕ) → roomy d n rows ≡ true → Room d n rows
+has_room d n rows h =
     let a = and_parts _ _ h in
     let b = and_parts _ _ a.0 in
-    let c = and_parts _ _ b.0 in
-    let e = and_parts _ _ c.0 in
-    let k = leb-true d r e.1 in
-    let l = leb-true n (r - d) c.1 in
-    record { narrow = leb-true r pitch e.0; coordinates = omega arith; pivots = leb-true n p b.1; rows = leb-true (n * pitch) t a.1 }
+    let k = leb-true d pitch b.0 in
+    let l = leb-true n (pitch - d) b.1 in
+    record { coordinates = omega arith; enough = leb-true n rows a.1 }
 
 -- a vector of a family that is covered ends within its words
 pub reaches : (d n stride s l : ℕ) → covers d n stride s ≡ true → l < n → l * stride + d ≤ s

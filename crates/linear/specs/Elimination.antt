@@ -1,19 +1,21 @@
--- Elimination over lent words: what a table holds, and what each call answers.
---   pitch                                the words from the beginning of one row of a table to the beginning of the next
+-- Elimination over lent words: what an echelon holds, and what each call answers.
+--   pitch                                the words of one row
 --   rows m laws stride xs l k            the element at place k of row l, where the rows of a list begin stride words apart
---   Table m laws d n v table pivots      a table as an elimination leaves it: v 0 .. v (n - 1) are independent, and the first n rows, a pitch apart, are elements and stand in echelon over them
+--   held m laws table l k                the element at place k of row l of a table, a list of rows
+--   Wide n table                         the first n rows of a table have a pitch of words each
+--   Table m laws d n v table pivots      a table as an elimination leaves it: v 0 .. v (n - 1) are independent, and the first n rows are elements and stand in echelon over them
 --   Growing m laws d N n v table pivots  the same within an elimination with room for N coordinates
 --   Relation m laws d n v row            after its d places the row holds the opposites of coefficients that combine v 0 .. v (n - 1) to v n
---   roomy d n t p r                      a table of t words, p pivots and a row of r words have room for n rows of d places and n coordinates
+--   roomy d n rows                       an echelon of so many rows has room for n rows of d places and n coordinates
 --   covers d n stride s                  s words have n rows of d places that begin stride words apart
---   fits d n stride s t p r              both
+--   fits d n stride s rows               both
 --   below d n pivots                     the first n pivots are places below d
---   solvable d n t pivots r              there is room, and the pivots are places
+--   solvable d n rows pivots             there is room, and the pivots are places
 --   Stepped .. a                         what taking one more vector answers
 --   Eliminated m laws d n v .. a         what the elimination of v 0 .. v (n - 1) answers
 --   Solved m laws d n v b out a          what the solver answers for the words b over v 0 .. v (n - 1)
 -- Used by: the contracts of the elimination.
-use Rattle.std.specs.Prelude.{◌≡◌, ℕ, zero, suc, ◌+◌, ◌-◌, ◌*◌, ◌<◌, Bool, true, ◌&&◌, T, ◌≢◌, List, length, Ok, Err, Result, nat_le, nat_lt, slice_index}
+use Rattle.std.specs.Prelude.{◌≡◌, ℕ, zero, suc, ◌+◌, ◌-◌, ◌*◌, ◌<◌, Bool, true, ◌&&◌, T, ◌≢◌, List, [], length, Ok, Err, Result, nat_le, nat_lt, slice_index, slice_index_or}
 use Rattle.field.specs.Meaning.{FieldMeaning, FieldLaws}
 use Rattle.algebra.specs.Vector.{Least, Combines, Independent}
 use Rattle.algebra.specs.Elements.{Elem, Elems, field_of, read}
@@ -26,45 +28,51 @@ use Rattle.linear.specs.declared.elimination.SolveFault.TheVariants.{NoRoom as U
 abbrev pub pitch : ℕ
 pitch = 96
 
-abbrev pub roomy : ℕ → ℕ → ℕ → ℕ → ℕ → Bool
-roomy d n t p r = nat_le r pitch && nat_le d r && nat_le n (r - d) && nat_le n p && nat_le (n * pitch) t
+abbrev pub roomy : ℕ → ℕ → ℕ → Bool
+roomy d n rows = nat_le d pitch && nat_le n (pitch - d) && nat_le n rows
 
 abbrev pub covers : ℕ → ℕ → ℕ → ℕ → Bool
 covers d n stride s = nat_le stride pitch && nat_le (n * stride - stride + d) s
 
-abbrev pub fits : ℕ → ℕ → ℕ → ℕ → ℕ → ℕ → ℕ → Bool
-fits d n stride s t p r = roomy d n t p r && covers d n stride s
+abbrev pub fits : ℕ → ℕ → ℕ → ℕ → ℕ → Bool
+fits d n stride s rows = roomy d n rows && covers d n stride s
 
 abbrev pub below : ℕ → ℕ → List ℕ → Bool
 below d zero pivots = true
 below d (suc n) pivots = below d n pivots && nat_lt (slice_index pivots n) d
 
-abbrev pub solvable : ℕ → ℕ → ℕ → List ℕ → ℕ → Bool
-solvable d n t pivots r = roomy d n t (length pivots) r && below d n pivots
+abbrev pub solvable : ℕ → ℕ → ℕ → List ℕ → Bool
+solvable d n rows pivots = roomy d n rows && below d n pivots
+
+abbrev pub Wide : ℕ → List (List ℕ) → Type 0
+Wide n table = (i : ℕ) → i < n → length (slice_index_or table i []) ≡ pitch
 
 module _ (m : FieldMeaning) (laws : FieldLaws m) where
   abbrev pub rows : ℕ → List ℕ → ℕ → ℕ → Elem m
   rows stride xs l k = read m laws xs (l * stride + k)
 
-  pub record Table (d n : ℕ) (v : ℕ → ℕ → Elem m) (table pivots : List ℕ) : Type 0 where
-    pub independent : Independent (field_of m laws) d n v
-    pub elements : (i k : ℕ) → i < n → k < d + n → T (m.elem (slice_index table (i * pitch + k)))
-    pub echelon : Echelon (field_of m laws) d n v (rows pitch table) (λ i. slice_index pivots i)
+  abbrev pub held : List (List ℕ) → ℕ → ℕ → Elem m
+  held table l k = read m laws (slice_index_or table l []) k
 
-  pub record Growing (d N n : ℕ) (v : ℕ → ℕ → Elem m) (table pivots : List ℕ) : Type 0 where
-    pub elements : (i k : ℕ) → i < n → k < d + N → T (m.elem (slice_index table (i * pitch + k)))
-    pub taken : Taken (field_of m laws) d N n v (rows pitch table) (λ i. slice_index pivots i)
+  pub record Table (d n : ℕ) (v : ℕ → ℕ → Elem m) (table : List (List ℕ)) (pivots : List ℕ) : Type 0 where
+    pub independent : Independent (field_of m laws) d n v
+    pub elements : (i k : ℕ) → i < n → k < d + n → T (m.elem (slice_index (slice_index_or table i []) k))
+    pub echelon : Echelon (field_of m laws) d n v (held table) (λ i. slice_index pivots i)
+
+  pub record Growing (d N n : ℕ) (v : ℕ → ℕ → Elem m) (table : List (List ℕ)) (pivots : List ℕ) : Type 0 where
+    pub elements : (i k : ℕ) → i < n → k < d + N → T (m.elem (slice_index (slice_index_or table i []) k))
+    pub taken : Taken (field_of m laws) d N n v (held table) (λ i. slice_index pivots i)
 
   pub record Relation (d n : ℕ) (v : ℕ → ℕ → Elem m) (row : List ℕ) : Type 0 where
     pub elements : (l : ℕ) → l < n → T (m.elem (slice_index row (d + l)))
     pub combines : Combines (field_of m laws) d n (λ l. (field_of m laws).neg (read m laws row (d + l))) v (v n)
 
-  abbrev pub Stepped : {A : Type 0} → ℕ → ℕ → ℕ → (ℕ → ℕ → Elem m) → List ℕ → List ℕ → List ℕ → Result A EliminateFault → Type 0
+  abbrev pub Stepped : {A : Type 0} → ℕ → ℕ → ℕ → (ℕ → ℕ → Elem m) → List (List ℕ) → List ℕ → List ℕ → Result A EliminateFault → Type 0
   Stepped d N n v table pivots row (Ok _) = Growing d N (n + 1) v table pivots
   Stepped d N n v table pivots row (Err (First j)) = (j ≡ n) × Growing d N n v table pivots × Relation d n v row
   Stepped d N n v table pivots row (Err NoRoom) = ⊥
 
-  abbrev pub Eliminated : {A : Type 0} → ℕ → ℕ → (ℕ → ℕ → Elem m) → List ℕ → List ℕ → List ℕ → Result A EliminateFault → Type 0
+  abbrev pub Eliminated : {A : Type 0} → ℕ → ℕ → (ℕ → ℕ → Elem m) → List (List ℕ) → List ℕ → List ℕ → Result A EliminateFault → Type 0
   Eliminated d n v table pivots row (Ok _) = ((i : ℕ) → i < n → Depends (field_of m laws) d v i → ⊥) × Table d n v table pivots
   Eliminated d n v table pivots row (Err (First j)) = (j < n) × Least (Depends (field_of m laws) d v) j × Table d j v table pivots × Relation d j v row
   Eliminated d n v table pivots row (Err NoRoom) = ⊥

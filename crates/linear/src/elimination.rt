@@ -1,14 +1,15 @@
 // Elimination over the words of any field: which vector of a family is the first that depends on
 // those before it, and the coefficients of a vector over independent ones.
-// Works in a table, pivots and a row that the caller lends, and touches nothing else but the part of
-// the output that is lent for a solution.
-ghost use Rattle.std.specs.Prelude.{◌≡◌, ℕ, ◌+◌, ◌*◌, ◌<◌, ◌≤◌, true, false, ◌≢◌, length, Err, OnOk, OnErr, IsErrOf, slice_index};
+// Works in memory of its own, and touches nothing else but the output that is lent for a solution.
+ghost use Rattle.std.specs.Prelude.{◌≡◌, ℕ, ◌+◌, ◌*◌, ◌<◌, ◌≤◌, true, false, ◌≢◌, [], length, get_or, replicate, Some, None, Err, OnOk, OnErr, IsErrOf, slice_index, slice_index_or};
 ghost use Rattle.field.specs.Meaning.{FieldLaws};
 ghost use Rattle.algebra.specs.Elements.{Elem, Elems};
-ghost use Rattle.linear.specs.Elimination.{pitch, roomy, covers, fits, below, solvable, rows, Table, Growing, Stepped, Eliminated, Solved};
+ghost use Rattle.linear.specs.Echelon.{reduced};
+ghost use Rattle.linear.specs.Elimination.{pitch, roomy, covers, fits, below, solvable, rows, Wide, Table, Growing, Stepped, Eliminated, Solved};
 
 mod rows;
 
+use crate::multiple::add_multiple;
 use field::Field;
 pub use rows::PITCH;
 
@@ -37,15 +38,20 @@ pub enum SolveFault {
     Outside,
 }
 
-// Whether what is lent has room for so many rows of so many places, with as many coordinates.
-fn has_room(places: usize, count: usize, table: usize, pivots: usize, row: usize) -> bool
-    ensures { result ≡ roomy places count table pivots row }
+// Rows in echelon form with the pivot of each, and a row to work in.
+#[derive(Drop)]
+pub struct Echelon<const ROWS: usize> {
+    rows: [[u32; PITCH]; ROWS],
+    pivots: [usize; ROWS],
+    work: [u32; PITCH],
+    ghost wide: { Wide ROWS rows },
+}
+
+// Whether so many rows have room for as many vectors of so many places, with as many coordinates.
+fn has_room(places: usize, count: usize, rows: usize) -> bool
+    ensures { result ≡ roomy places count rows }
 {
-    row <= PITCH
-        && places <= row
-        && count <= row - places
-        && count <= pivots
-        && count * PITCH <= table
+    places <= PITCH && count <= PITCH - places && count <= rows
 }
 
 // Whether the words hold the whole family.
@@ -64,98 +70,123 @@ fn are_places(pivots: &[usize], count: usize, places: usize) -> bool
     pivots[..count].iter().all(|pivot| *pivot < places)
 }
 
-// Takes the vector n of a family after those before it.
-fn take<F: Field>(
-    field: &F,
-    family: Family,
-    n: usize,
-    table: &mut [u32],
-    pivots: &mut [usize],
-    row: &mut [u32],
-) -> Result<(), EliminateFault>
-    requires covered { n * family.stride + family.places ≤ length family.words.now }
-    requires width { length row.old ≤ pitch }
-    requires coordinate { family.places + n < length row.old }
-    requires rows { n * pitch + pitch ≤ length table.old }
-    requires pivots { n < length pivots.old }
-    requires within { (i : ℕ) → i < n → slice_index pivots.old i < family.places }
-    ensures within { OnOk result ((i : ℕ) → i < n + 1 → slice_index pivots.new i < family.entry.places) }
-    ensures stepped { (laws : FieldLaws (F.Field.meaning field.now)) (N : ℕ) → n < N → family.entry.places + N ≤ length row.old → Elems (F.Field.meaning field.now) family.entry.words.now → Growing (F.Field.meaning field.now) laws family.entry.places N n (rows (F.Field.meaning field.now) laws family.entry.stride family.entry.words.now) table.old pivots.old → Stepped (F.Field.meaning field.now) laws family.entry.places N n (rows (F.Field.meaning field.now) laws family.entry.stride family.entry.words.now) table.new pivots.new row.new result }
-{
-    let start = n * family.stride;
-    let vector = &family.words[start..start + family.places];
-    let Some(place) = rows::remainder(field, table, pivots, n, vector, row) else {
-        return Err(EliminateFault::Depends(n));
-    };
-    let Some(q) = field.inverse(row[place]) else {
-        return Err(EliminateFault::NoRoom);
-    };
-    row[family.places + n] = field.one();
-    rows::keep(field, table, n * PITCH, row, q);
-    pivots[n] = place;
-    Ok(())
-}
+impl<const ROWS: usize> Echelon<ROWS> {
+    pub fn new() -> Echelon<ROWS>
+        ensures rows { result.rows ≡ replicate ROWS (replicate pitch 0) }
+        ensures pivots { result.pivots ≡ replicate ROWS 0 }
+        ensures work { result.work ≡ replicate pitch 0 }
+    {
+        Echelon {
+            rows: [[0; PITCH]; ROWS],
+            pivots: [0; ROWS],
+            work: [0; PITCH],
+        }
+    }
 
-// Takes the vectors of a family one after the other, until one depends on those before it. The table
-// and the pivots are then as `solve` wants them, and the row has the relation of the one that depends.
-pub fn eliminate<F: Field>(
-    field: &F,
-    family: Family,
-    table: &mut [u32],
-    pivots: &mut [usize],
-    row: &mut [u32],
-) -> Result<(), EliminateFault>
-    ensures refused { fits family.entry.places family.entry.count family.entry.stride (length family.entry.words.now) (length table.old) (length pivots.old) (length row.old) ≡ false → IsErrOf result EliminateFault.NoRoom × (table.new ≡ table.old) × (pivots.new ≡ pivots.old) × (row.new ≡ row.old) }
-    ensures eliminated { fits family.entry.places family.entry.count family.entry.stride (length family.entry.words.now) (length table.old) (length pivots.old) (length row.old) ≡ true → (laws : FieldLaws (F.Field.meaning field.now)) → Elems (F.Field.meaning field.now) family.entry.words.now → Eliminated (F.Field.meaning field.now) laws family.entry.places family.entry.count (rows (F.Field.meaning field.now) laws family.entry.stride family.entry.words.now) table.new pivots.new row.new result }
-{
-    if !has_room(
-        family.places,
-        family.count,
-        table.len(),
-        pivots.len(),
-        row.len(),
-    ) {
-        return Err(EliminateFault::NoRoom);
+    // Reduces the work row by the first `count` rows: after each it is zero at that row's pivot.
+    fn reduce<F: Field>(&mut self, field: &F, count: usize)
+        requires rows { count ≤ ROWS }
+        requires within { (i : ℕ) → i < count → slice_index self.old.pivots i < pitch }
+        ensures rows { self.new.rows ≡ self.old.rows }
+        ensures pivots { self.new.pivots ≡ self.old.pivots }
+        ensures reduced { (k : ℕ) → k < pitch → slice_index self.new.work k ≡ reduced (F.Field.meaning field.now).add (F.Field.meaning field.now).mul (F.Field.meaning field.now).neg (λ i j. slice_index (slice_index_or self.old.rows i []) j) (λ i. slice_index self.old.pivots i) (λ j. slice_index self.old.work j) count k }
+    {
+        let work = &mut self.work;
+        for (pivot, above) in self.pivots[..count].iter().zip(&self.rows) {
+            let q = field.neg(work[*pivot]);
+            add_multiple(field, q, above, work);
+        }
     }
-    if !is_covered(
-        family.places,
-        family.count,
-        family.stride,
-        family.words.len(),
-    ) {
-        return Err(EliminateFault::NoRoom);
-    }
-    for n in 0..family.count {
-        take(field, family, n, table, pivots, row)?;
-    }
-    Ok(())
-}
 
-// Writes into `out` the coefficients by which the vectors that an elimination took combine to the
-// vector given, one for each word of `out`.
-pub fn solve<F: Field>(
-    field: &F,
-    table: &[u32],
-    pivots: &[usize],
-    vector: &[u32],
-    row: &mut [u32],
-    out: &mut [u32],
-) -> Result<(), SolveFault>
-    ensures refused { solvable (length vector.now) (length out.old) (length table.now) pivots.now (length row.old) ≡ false → IsErrOf result SolveFault.NoRoom × (row.new ≡ row.old) }
-    ensures answered { solvable (length vector.now) (length out.old) (length table.now) pivots.now (length row.old) ≡ true → result ≢ Err SolveFault.NoRoom }
-    ensures unwritten { OnErr result (out.new ≡ out.old) }
-    ensures solved { roomy (length vector.now) (length out.old) (length table.now) (length pivots.now) (length row.old) ≡ true → (laws : FieldLaws (F.Field.meaning field.now)) (v : ℕ → ℕ → Elem (F.Field.meaning field.now)) → Elems (F.Field.meaning field.now) vector.now → Table (F.Field.meaning field.now) laws (length vector.now) (length out.old) v table.now pivots.now → Solved (F.Field.meaning field.now) laws (length vector.now) (length out.old) v vector.now out.new result }
-{
-    let count = out.len();
-    if !has_room(vector.len(), count, table.len(), pivots.len(), row.len()) {
-        return Err(SolveFault::NoRoom);
+    // Writes into the work row what the first `count` rows leave of a vector, and after it the
+    // coordinates of what they added to it. Answers the first place where something is left.
+    fn remainder<F: Field>(&mut self, field: &F, count: usize, vector: &[u32]) -> Option<usize>
+        requires room { length vector.now ≤ pitch }
+        requires rows { count ≤ ROWS }
+        requires within { (i : ℕ) → i < count → slice_index self.old.pivots i < length vector.now }
+        ensures rows { self.new.rows ≡ self.old.rows }
+        ensures pivots { self.new.pivots ≡ self.old.pivots }
+        ensures width { length self.new.work ≡ pitch }
+        ensures left { (k : ℕ) → k < pitch → slice_index self.new.work k ≡ reduced (F.Field.meaning field.now).add (F.Field.meaning field.now).mul (F.Field.meaning field.now).neg (λ i j. slice_index (slice_index_or self.old.rows i []) j) (λ i. slice_index self.old.pivots i) (λ j. get_or vector.now j (F.Field.meaning field.now).zero) count k }
+        ensures place { elim result [ Some p ↦ (p < length vector.now) × (slice_index self.new.work p ≢ (F.Field.meaning field.now).zero) × ((k : ℕ) → k < p → slice_index self.new.work k ≡ (F.Field.meaning field.now).zero) | None ↦ (k : ℕ) → k < length vector.now → slice_index self.new.work k ≡ (F.Field.meaning field.now).zero ] }
+    {
+        rows::begin(field, &mut self.work, vector);
+        self.reduce(field, count);
+        rows::first_nonzero(field, &self.work, vector.len())
     }
-    if !are_places(pivots, count, vector.len()) {
-        return Err(SolveFault::NoRoom);
+
+    // Takes the vector n of a family after those before it.
+    fn take<F: Field>(&mut self, field: &F, family: Family, n: usize) -> Result<(), EliminateFault>
+        requires covered { n * family.stride + family.places ≤ length family.words.now }
+        requires coordinate { family.places + n < pitch }
+        requires rows { n < ROWS }
+        requires within { (i : ℕ) → i < n → slice_index self.old.pivots i < family.places }
+        ensures within { OnOk result ((i : ℕ) → i < n + 1 → slice_index self.new.pivots i < family.entry.places) }
+        ensures stepped { (laws : FieldLaws (F.Field.meaning field.now)) (N : ℕ) → n < N → family.entry.places + N ≤ pitch → Elems (F.Field.meaning field.now) family.entry.words.now → Growing (F.Field.meaning field.now) laws family.entry.places N n (rows (F.Field.meaning field.now) laws family.entry.stride family.entry.words.now) self.old.rows self.old.pivots → Stepped (F.Field.meaning field.now) laws family.entry.places N n (rows (F.Field.meaning field.now) laws family.entry.stride family.entry.words.now) self.new.rows self.new.pivots self.new.work result }
+    {
+        let start = n * family.stride;
+        let vector = &family.words[start..start + family.places];
+        let Some(place) = self.remainder(field, n, vector) else {
+            return Err(EliminateFault::Depends(n));
+        };
+        let Some(q) = field.inverse(self.work[place]) else {
+            return Err(EliminateFault::NoRoom);
+        };
+        self.work[family.places + n] = field.one();
+        self.rows[n] = rows::scaled(field, &self.work, q);
+        self.pivots[n] = place;
+        Ok(())
     }
-    if let Some(_) = rows::remainder(field, table, pivots, count, vector, row) {
-        return Err(SolveFault::Outside);
+
+    // Takes the vectors of a family one after the other, until one depends on those before it. The
+    // rows are then as `solve` wants them, and the work row has the relation of the one that depends.
+    pub fn eliminate<F: Field>(&mut self, field: &F, family: Family) -> Result<(), EliminateFault>
+        ensures refused { fits family.entry.places family.entry.count family.entry.stride (length family.entry.words.now) ROWS ≡ false → IsErrOf result EliminateFault.NoRoom × (self.new.rows ≡ self.old.rows) × (self.new.pivots ≡ self.old.pivots) × (self.new.work ≡ self.old.work) }
+        ensures eliminated { fits family.entry.places family.entry.count family.entry.stride (length family.entry.words.now) ROWS ≡ true → (laws : FieldLaws (F.Field.meaning field.now)) → Elems (F.Field.meaning field.now) family.entry.words.now → Eliminated (F.Field.meaning field.now) laws family.entry.places family.entry.count (rows (F.Field.meaning field.now) laws family.entry.stride family.entry.words.now) self.new.rows self.new.pivots self.new.work result }
+    {
+        if !has_room(family.places, family.count, ROWS) {
+            return Err(EliminateFault::NoRoom);
+        }
+        if !is_covered(
+            family.places,
+            family.count,
+            family.stride,
+            family.words.len(),
+        ) {
+            return Err(EliminateFault::NoRoom);
+        }
+        for n in 0..family.count {
+            self.take(field, family, n)?;
+        }
+        Ok(())
     }
-    rows::opposites(field, row, vector.len(), out);
-    Ok(())
+
+    // Writes into `out` the coefficients by which the vectors that an elimination took combine to the
+    // vector given, one for each word of `out`.
+    pub fn solve<F: Field>(
+        &mut self,
+        field: &F,
+        vector: &[u32],
+        out: &mut [u32],
+    ) -> Result<(), SolveFault>
+        ensures refused { solvable (length vector.now) (length out.old) ROWS self.old.pivots ≡ false → IsErrOf result SolveFault.NoRoom × (self.new.work ≡ self.old.work) }
+        ensures answered { solvable (length vector.now) (length out.old) ROWS self.old.pivots ≡ true → result ≢ Err SolveFault.NoRoom }
+        ensures unwritten { OnErr result (out.new ≡ out.old) }
+        ensures rows { self.new.rows ≡ self.old.rows }
+        ensures pivots { self.new.pivots ≡ self.old.pivots }
+        ensures solved { roomy (length vector.now) (length out.old) ROWS ≡ true → (laws : FieldLaws (F.Field.meaning field.now)) (v : ℕ → ℕ → Elem (F.Field.meaning field.now)) → Elems (F.Field.meaning field.now) vector.now → Table (F.Field.meaning field.now) laws (length vector.now) (length out.old) v self.old.rows self.old.pivots → Solved (F.Field.meaning field.now) laws (length vector.now) (length out.old) v vector.now out.new result }
+    {
+        let count = out.len();
+        if !has_room(vector.len(), count, ROWS) {
+            return Err(SolveFault::NoRoom);
+        }
+        if !are_places(&self.pivots, count, vector.len()) {
+            return Err(SolveFault::NoRoom);
+        }
+        if let Some(_) = self.remainder(field, count, vector) {
+            return Err(SolveFault::Outside);
+        }
+        rows::opposites(field, &self.work, vector.len(), out);
+        Ok(())
+    }
 }

@@ -1,24 +1,17 @@
-use Rattle.std.proofs.Common.{◌≡◌, sym, subst, arith}
+use Rattle.std.proofs.Common.{◌≡◌, sym, subst, arith, rules}
 use Rattle.std.proofs.lemmas.Result.{err_from_is_err_and}
 use Rattle.linear.specs.Elimination.{rows, Growing}
 use Rattle.linear.proofs.Room.{has_room, reaches, both_passed}
 use Rattle.linear.proofs.Carry.{nothing_taken, table_of, failed}
-use Rattle.linear.proofs.elimination.eliminate.Goals as goal
+use Rattle.linear.proofs.elimination.Echelon.eliminate.Goals as goal
 
 pub loop-n-init : goal.loop-n-init
-loop-n-init g c = (has_room _ _ _ _ _ (sym c.if-not-has_room.ensures), λ i h. absurd (omega arith), λ laws given. nothing_taken _ laws _ _ _ _ _)
+loop-n-init g c = (has_room _ _ _ (sym c.if-not-has_room.ensures), λ i h. absurd (omega arith), λ laws given. nothing_taken _ laws _ _ _ _ _)
 
 pub take-requires : goal.take-requires
 take-requires g c =
     let room = c.loop-n.invariant.0 in
-    record {
-      covered = reaches _ c.args.family.count _ _ _ (sym c.if-not-is_covered.ensures) c.loop-n-test.true;
-      width = omega arith;
-      coordinate = omega arith;
-      rows = omega arith;
-      pivots = omega arith;
-      within = c.loop-n.invariant.1;
-    }
+    (search rules, (reaches _ c.args.family.count _ _ _ (sym c.if-not-is_covered.ensures) c.loop-n-test.true, (omega arith, (omega arith, c.loop-n.invariant.1))))
 
 pub returns-in_err-take : goal.returns-in_err-take
 returns-in_err-take g c = record {
@@ -41,6 +34,6 @@ returns g c = record {
       let m = g.F.Field.meaning c.args.field.now in
       let family = c.args.family in
       let all : c.loop-n.n ≡ family.count = omega arith in
-      let G = subst (λ n. Growing m laws family.places family.count n (rows m laws family.stride family.words.now) c.loop-n.table c.loop-n.pivots) all (c.loop-n.invariant.2 laws given) in
+      let G = subst (λ n. Growing m laws family.places family.count n (rows m laws family.stride family.words.now) c.loop-n.self.rows c.loop-n.self.pivots) all (c.loop-n.invariant.2 laws given) in
       (G.taken.fresh, table_of _ laws _ _ _ _ _ _ (omega arith) G);
 }
