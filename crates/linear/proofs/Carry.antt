@@ -46,7 +46,7 @@ module _ (m : FieldMeaning) (laws : FieldLaws m) where
     pub elements : (i k : ℕ) → i < n → k < d + N → T (m.elem (get_or (get_or table i []) k 0))
     pub pivot : (i : ℕ) → i < n → get_or pivots i 0 < d
     pub given : Elems m vector
-    pub left : (k : ℕ) → k < length row → get_or row k 0 ≡ reduced m.add m.mul m.neg (λ i j. get_or (get_or table i []) j 0) (λ i. get_or pivots i 0) (λ j. get_or vector j m.zero) n k
+    pub left : (k : ℕ) → k < d + N → get_or row k 0 ≡ reduced m.add m.mul m.neg (λ i j. get_or (get_or table i []) j 0) (λ i. get_or pivots i 0) (λ j. get_or vector j m.zero) n k
 
   module _ (d N n : ℕ) (v : ℕ → ℕ → Elem m) (table : List (List ℕ)) (pivots vector row : List ℕ) (L : Remainder d N n table pivots vector row) where
     table_word : (i k : ℕ) → i < n → k < d + N → get_or (get_or table i []) k 0 ≡ (held m laws table i k).0
@@ -79,7 +79,7 @@ module _ (m : FieldMeaning) (laws : FieldLaws m) where
           (agrees : (k : ℕ) → k < d → read m laws vector k ≡ v n k)
           (row' : List ℕ) (table' : List (List ℕ)) (pivots' : List ℕ) (long : length row' ≡ length row) (own : get_or row' (d + n) 0 ≡ m.one) (rest : (k : ℕ) → k ≢ d + n → get_or row' k 0 ≡ get_or row k 0)
           (wide' : length (get_or table' n []) ≡ pitch) (before : (i : ℕ) → i < n → get_or table' i [] ≡ get_or table i [])
-          (kept : (k : ℕ) → k < length row' → get_or (get_or table' n []) k 0 ≡ m.mul q (get_or row' k 0))
+          (kept : (k : ℕ) → k < d + N → get_or (get_or table' n []) k 0 ≡ m.mul q (get_or row' k 0))
           (old : (i : ℕ) → i < n → get_or pivots' i 0 ≡ get_or pivots i 0) (new : get_or pivots' n 0 ≡ place) where
         same : q ≡ invertible.0
         same = let e = invertible.1 in cc
@@ -135,18 +135,18 @@ module _ (m : FieldMeaning) (laws : FieldLaws m) where
 
       one_kept : (q o : ℕ) → m.inv (get_or row place 0) ≡ Some q → o ≡ m.one → Taken F d N n v (held m laws table) (λ i. get_or pivots i 0) → n < N → n < length pivots
           → ((k : ℕ) → k < d → read m laws vector k ≡ v n k)
-          → (scaled : List ℕ) → n < length table → length row ≡ pitch → length scaled ≡ pitch → ((k : ℕ) → k < pitch → get_or scaled k 0 ≡ m.mul q (get_or (set row (d + n) o) k 0))
+          → (scaled : List ℕ) → n < length table → length scaled ≡ pitch → ((k : ℕ) → k < d + N → get_or scaled k 0 ≡ m.mul q (get_or (set row (d + n) o) k 0))
           → Growing m laws d N (n + 1) v (set table n scaled) (set pivots n place)
-      one_kept q o inverse is_one G room last agrees scaled here long wide words =
+      one_kept q o inverse is_one G room last agrees scaled here wide words =
           let own : get_or (set table n scaled) n [] ≡ scaled = get_or-set_same table n scaled [] here in
           one_more q inverse G room agrees (set row (d + n) o) (set table n scaled) (set pivots n place) (length-set row (d + n) o)
           (get_or-set_same row (d + n) o 0 (omega (arith, L.within)) ∙ is_one) (other row (d + n) o)
           (ap length own ∙ wide) (λ i a. let ne : i ≢ n = omega arith in rw get_or-set_other)
-          (λ k a. ap (λ (xs : List ℕ). get_or xs k 0) own ∙ words k (omega (arith, length-set row (d + n) o))) (λ i a. other pivots n place i (omega arith)) (get_or-set_same pivots n place 0 last)
+          (λ k a. ap (λ (xs : List ℕ). get_or xs k 0) own ∙ words k a) (λ i a. other pivots n place i (omega arith)) (get_or-set_same pivots n place 0 last)
 
   module _ (d N n stride : ℕ) (words : List ℕ) (table : List (List ℕ)) (pivots row : List ℕ) (covered : n * stride + d ≤ length words) (narrow : length row ≤ pitch) (wide : Wide n table) (room : n < N) (within : d + N ≤ length row)
       (given : Elems m words) (G : Growing m laws d N n (rows m laws stride words) table pivots)
-      (left : (k : ℕ) → k < length row → get_or row k 0 ≡ reduced m.add m.mul m.neg (λ i j. get_or (get_or table i []) j 0) (λ i. get_or pivots i 0) (λ j. get_or (part (n * stride) d words) j m.zero) n k) where
+      (left : (k : ℕ) → k < d + N → get_or row k 0 ≡ reduced m.add m.mul m.neg (λ i j. get_or (get_or table i []) j 0) (λ i. get_or pivots i 0) (λ j. get_or (part (n * stride) d words) j m.zero) n k) where
     L : Remainder d N n table pivots (part (n * stride) d words) row
     L = record {
       room = omega arith;
@@ -178,10 +178,10 @@ module _ (m : FieldMeaning) (laws : FieldLaws m) where
 
     pub kept : (place : ℕ) → place < length (part (n * stride) d words) → get_or row place 0 ≢ m.zero
         → (q o : ℕ) → m.inv (get_or row place 0) ≡ Some q → o ≡ m.one → n < length pivots
-        → (scaled : List ℕ) → n < length table → length row ≡ pitch → length scaled ≡ pitch → ((k : ℕ) → k < pitch → get_or scaled k 0 ≡ m.mul q (get_or (set row (d + n) o) k 0))
+        → (scaled : List ℕ) → n < length table → length scaled ≡ pitch → ((k : ℕ) → k < d + N → get_or scaled k 0 ≡ m.mul q (get_or (set row (d + n) o) k 0))
         → Growing m laws d N (n + 1) (rows m laws stride words) (set table n scaled) (set pivots n place)
-    kept place h ne q o e f last scaled r l b w =
-        one_kept d N n (rows m laws stride words) table pivots _ row L place (short place h) ne q o e f G.taken room last (WordLists.part_read m laws (n * stride) d words covered given) scaled r l b w
+    kept place h ne q o e f last scaled l b w =
+        one_kept d N n (rows m laws stride words) table pivots _ row L place (short place h) ne q o e f G.taken room last (WordLists.part_read m laws (n * stride) d words covered given) scaled l b w
 
   -- what an elimination leaves
   pub table_of : (d N n : ℕ) (v : ℕ → ℕ → Elem m) (table : List (List ℕ)) (pivots : List ℕ) → n ≤ N → Growing m laws d N n v table pivots → Table m laws d n v table pivots
@@ -207,7 +207,7 @@ module _ (m : FieldMeaning) (laws : FieldLaws m) where
 
   -- what a solver finds
   module _ (d n : ℕ) (v : ℕ → ℕ → Elem m) (table : List (List ℕ)) (pivots vector row : List ℕ) (is : length vector ≡ d) (G : Table m laws d n v table pivots) (narrow : length row ≤ pitch) (wide : Wide n table) (within : d + n ≤ length row) (given : Elems m vector)
-      (left : (k : ℕ) → k < length row → get_or row k 0 ≡ reduced m.add m.mul m.neg (λ i j. get_or (get_or table i []) j 0) (λ i. get_or pivots i 0) (λ j. get_or vector j m.zero) n k) where
+      (left : (k : ℕ) → k < d + n → get_or row k 0 ≡ reduced m.add m.mul m.neg (λ i j. get_or (get_or table i []) j 0) (λ i. get_or pivots i 0) (λ j. get_or vector j m.zero) n k) where
     M : Remainder d n n table pivots vector row
     M = record { room = omega arith; wide = wide; is = is; within = within; elements = G.elements; pivot = G.echelon.pivot_in; given = given; left = left }
 

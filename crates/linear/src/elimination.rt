@@ -83,57 +83,69 @@ impl<const ROWS: usize> Echelon<ROWS> {
         }
     }
 
-    // Reduces the work row by the first `count` rows: after each it is zero at that row's pivot.
-    fn reduce<F: Field>(&mut self, field: &F, count: usize)
+    // Reduces the first `width` words of the work row by the first `count` rows: after each it is zero
+    // at that row's pivot.
+    fn reduce<F: Field>(&mut self, field: &F, count: usize, width: usize)
         requires rows { count ≤ ROWS }
-        requires within { (i : ℕ) → i < count → slice_index self.old.pivots i < pitch }
+        requires width { width ≤ pitch }
+        requires within { (i : ℕ) → i < count → slice_index self.old.pivots i < width }
         ensures rows { self.new.rows ≡ self.old.rows }
         ensures pivots { self.new.pivots ≡ self.old.pivots }
-        ensures reduced { (k : ℕ) → k < pitch → slice_index self.new.work k ≡ reduced (F.Field.meaning field.now).add (F.Field.meaning field.now).mul (F.Field.meaning field.now).neg (λ i j. slice_index (slice_index_or self.old.rows i []) j) (λ i. slice_index self.old.pivots i) (λ j. slice_index self.old.work j) count k }
+        ensures reduced { (k : ℕ) → k < width → slice_index self.new.work k ≡ reduced (F.Field.meaning field.now).add (F.Field.meaning field.now).mul (F.Field.meaning field.now).neg (λ i j. slice_index (slice_index_or self.old.rows i []) j) (λ i. slice_index self.old.pivots i) (λ j. slice_index self.old.work j) count k }
     {
         let work = &mut self.work;
         for (pivot, above) in self.pivots[..count].iter().zip(&self.rows) {
             let q = field.neg(work[*pivot]);
-            add_multiple(field, q, above, work);
+            add_multiple(field, q, &above[..width], work);
         }
     }
 
-    // Writes into the work row what the first `count` rows leave of a vector, and after it the
-    // coordinates of what they added to it. Answers the first place where something is left.
-    fn remainder<F: Field>(&mut self, field: &F, count: usize, vector: &[u32]) -> Option<usize>
-        requires room { length vector.now ≤ pitch }
+    // Writes into the work row what the first `count` rows leave of a vector, and after it, up to
+    // `width` words, the coordinates of what they added to it. Answers the first place where something
+    // is left.
+    fn remainder<F: Field>(
+        &mut self,
+        field: &F,
+        count: usize,
+        vector: &[u32],
+        width: usize,
+    ) -> Option<usize>
+        requires width { width ≤ pitch }
+        requires room { length vector.now ≤ width }
         requires rows { count ≤ ROWS }
         requires within { (i : ℕ) → i < count → slice_index self.old.pivots i < length vector.now }
         ensures rows { self.new.rows ≡ self.old.rows }
         ensures pivots { self.new.pivots ≡ self.old.pivots }
-        ensures width { length self.new.work ≡ pitch }
-        ensures left { (k : ℕ) → k < pitch → slice_index self.new.work k ≡ reduced (F.Field.meaning field.now).add (F.Field.meaning field.now).mul (F.Field.meaning field.now).neg (λ i j. slice_index (slice_index_or self.old.rows i []) j) (λ i. slice_index self.old.pivots i) (λ j. get_or vector.now j (F.Field.meaning field.now).zero) count k }
+        ensures work { length self.new.work ≡ pitch }
+        ensures left { (k : ℕ) → k < width → slice_index self.new.work k ≡ reduced (F.Field.meaning field.now).add (F.Field.meaning field.now).mul (F.Field.meaning field.now).neg (λ i j. slice_index (slice_index_or self.old.rows i []) j) (λ i. slice_index self.old.pivots i) (λ j. get_or vector.now j (F.Field.meaning field.now).zero) count k }
         ensures place { elim result [ Some p ↦ (p < length vector.now) × (slice_index self.new.work p ≢ (F.Field.meaning field.now).zero) × ((k : ℕ) → k < p → slice_index self.new.work k ≡ (F.Field.meaning field.now).zero) | None ↦ (k : ℕ) → k < length vector.now → slice_index self.new.work k ≡ (F.Field.meaning field.now).zero ] }
     {
         rows::begin(field, &mut self.work, vector);
-        self.reduce(field, count);
+        self.reduce(field, count, width);
         rows::first_nonzero(field, &self.work, vector.len())
     }
 
     // Takes the vector n of a family after those before it.
     fn take<F: Field>(&mut self, field: &F, family: Family, n: usize) -> Result<(), EliminateFault>
         requires covered { n * family.stride + family.places ≤ length family.words.now }
-        requires coordinate { family.places + n < pitch }
+        requires room { family.places + family.count ≤ pitch }
+        requires coordinate { n < family.count }
         requires rows { n < ROWS }
         requires within { (i : ℕ) → i < n → slice_index self.old.pivots i < family.places }
         ensures within { OnOk result ((i : ℕ) → i < n + 1 → slice_index self.new.pivots i < family.entry.places) }
-        ensures stepped { (laws : FieldLaws (F.Field.meaning field.now)) (N : ℕ) → n < N → family.entry.places + N ≤ pitch → Elems (F.Field.meaning field.now) family.entry.words.now → Growing (F.Field.meaning field.now) laws family.entry.places N n (rows (F.Field.meaning field.now) laws family.entry.stride family.entry.words.now) self.old.rows self.old.pivots → Stepped (F.Field.meaning field.now) laws family.entry.places N n (rows (F.Field.meaning field.now) laws family.entry.stride family.entry.words.now) self.new.rows self.new.pivots self.new.work result }
+        ensures stepped { (laws : FieldLaws (F.Field.meaning field.now)) → Elems (F.Field.meaning field.now) family.entry.words.now → Growing (F.Field.meaning field.now) laws family.entry.places family.entry.count n (rows (F.Field.meaning field.now) laws family.entry.stride family.entry.words.now) self.old.rows self.old.pivots → Stepped (F.Field.meaning field.now) laws family.entry.places family.entry.count n (rows (F.Field.meaning field.now) laws family.entry.stride family.entry.words.now) self.new.rows self.new.pivots self.new.work result }
     {
         let start = n * family.stride;
         let vector = &family.words[start..start + family.places];
-        let Some(place) = self.remainder(field, n, vector) else {
+        let width = family.places + family.count;
+        let Some(place) = self.remainder(field, n, vector, width) else {
             return Err(EliminateFault::Depends(n));
         };
         let Some(q) = field.inverse(self.work[place]) else {
             return Err(EliminateFault::NoRoom);
         };
         self.work[family.places + n] = field.one();
-        self.rows[n] = rows::scaled(field, &self.work, q);
+        self.rows[n] = rows::scaled(field, &self.work[..width], q);
         self.pivots[n] = place;
         Ok(())
     }
@@ -183,7 +195,7 @@ impl<const ROWS: usize> Echelon<ROWS> {
         if !are_places(&self.pivots, count, vector.len()) {
             return Err(SolveFault::NoRoom);
         }
-        if let Some(_) = self.remainder(field, count, vector) {
+        if let Some(_) = self.remainder(field, count, vector, vector.len() + count) {
             return Err(SolveFault::Outside);
         }
         rows::opposites(field, &self.work, vector.len(), out);

@@ -26,16 +26,17 @@ pub(super) fn first_nonzero<F: Field>(field: &F, row: &[u32], places: usize) -> 
     row[..places].iter().position(|word| *word != zero)
 }
 
-// A row with `q` times each word.
-pub(super) fn scaled<F: Field>(field: &F, row: &[u32; PITCH], q: u32) -> [u32; PITCH]
+// A row that has `q` times each of the words.
+pub(super) fn scaled<F: Field>(field: &F, words: &[u32], q: u32) -> [u32; PITCH]
+    requires { length words.now ≤ pitch }
     ensures width { length result ≡ pitch }
-    ensures words { (k : ℕ) → k < pitch → slice_index result k ≡ (F.Field.meaning field.now).mul q (slice_index row.now k) }
+    ensures words { (k : ℕ) → k < length words.now → slice_index result k ≡ (F.Field.meaning field.now).mul q (slice_index words.now k) }
 {
-    let mut scaled = *row;
-    for word in scaled.iter_mut() {
-        *word = field.mul(q, *word);
+    let mut row = [0; PITCH];
+    for (k, word) in words.iter().enumerate() {
+        row[k] = field.mul(q, *word);
     }
-    scaled
+    row
 }
 
 // Writes the opposites of the words of a row, from the word `start` on, into all of `out`.

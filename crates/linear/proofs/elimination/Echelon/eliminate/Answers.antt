@@ -11,7 +11,7 @@ loop-n-init g c = (has_room _ _ _ (sym c.if-not-has_room.ensures), λ i h. absur
 pub take-requires : goal.take-requires
 take-requires g c =
     let room = c.loop-n.invariant.0 in
-    (search rules, (reaches _ c.args.family.count _ _ _ (sym c.if-not-is_covered.ensures) c.loop-n-test.true, (omega arith, (omega arith, c.loop-n.invariant.1))))
+    (search rules, (reaches _ c.args.family.count _ _ _ (sym c.if-not-is_covered.ensures) c.loop-n-test.true, (omega arith, (c.loop-n-test.true, (omega arith, c.loop-n.invariant.1)))))
 
 pub returns-in_err-take : goal.returns-in_err-take
 returns-in_err-take g c = record {
@@ -19,13 +19,13 @@ returns-in_err-take g c = record {
   eliminated = λ h laws given.
       let room = c.loop-n.invariant.0 in
       let p = err_from_is_err_and c.from_residual.result c.from_residual.ensures.1 in
-      rw p.1 (failed _ laws _ _ _ _ _ _ _ p.0 c.loop-n-test.true (rw p.2 (c.in_err-take.ensures.stepped laws _ c.loop-n-test.true (omega arith) given (c.loop-n.invariant.2 laws given))));
+      rw p.1 (failed _ laws _ _ _ _ _ _ _ p.0 c.loop-n-test.true (rw p.2 (c.in_err-take.ensures.stepped laws given (c.loop-n.invariant.2 laws given))));
 }
 
 pub loop-n-preserved : goal.loop-n-preserved
 loop-n-preserved g c =
     let room = c.loop-n.invariant.0 in
-    (room, c.in_ok-take.ensures.within, λ laws given. c.in_ok-take.ensures.stepped laws _ c.loop-n-test.true (omega arith) given (c.loop-n.invariant.2 laws given))
+    (room, c.in_ok-take.ensures.within, λ laws given. c.in_ok-take.ensures.stepped laws given (c.loop-n.invariant.2 laws given))
 
 pub returns : goal.returns
 returns g c = record {

@@ -21,8 +21,8 @@ loop-pivot-preserved g c =
       λ k h. subst (λ n. get_or c.add_multiple.new.to k 0 ≡ reduced m.add m.mul m.neg (λ r j. get_or (get_or rows r []) j 0) (λ r. get_or pivots r 0) (λ j. get_or c.args.self.now.work j 0) n k)
           (sym (length_push c.loop-pivot.yielded _ ∙ add-one i))
           (ap (λ xs. get_or xs k 0) c.add_multiple.ensures.sums
-          ∙ added_at m c.neg-q.result c.in-Some.above.now work k (omega arith) (omega arith)
+          ∙ added_at m c.neg-q.result (take c.args.width c.in-Some.above.now) work k (omega (arith, long, length-take c.args.width c.in-Some.above.now)) (omega (arith, c.requires.width))
           ∙ ap₂ m.add (c.loop-pivot.invariant.1 k h)
           (ap₂ m.mul (c.neg-q.ensures ∙ ap m.neg (ap (λ j. get_or work j 0) pivot ∙ c.loop-pivot.invariant.1 (get_or pivots i 0) (c.requires.within i below)))
-          (ap (λ (xs : List ℕ). get_or xs k 0) (t.3 [])))),
+          (get_or-take c.args.width c.in-Some.above.now k 0 h ∙ ap (λ (xs : List ℕ). get_or xs k 0) (t.3 [])))),
     )
