@@ -1,6 +1,6 @@
 -- Lists that a loop writes word by word, and parts that are lent.
 --   each        what holds of each word written, by its place, holds after the next is written
---   put         the same where each word written is given, and from a place on
+--   put         the same where each word written is given
 --   other       a word that is not written stays
 --   padded      words with one word after them, so often
 --   part        the words lent by a range, with their number and each of them
@@ -19,12 +19,6 @@ module _ (xs : List ℕ) (i w : ℕ) where
 
   pub other : (j : ℕ) → j ≢ i → get_or (set xs i w) j 0 ≡ get_or xs j 0
   other j ne = rw get_or-set_other
-
-pub put_from : (xs : List ℕ) (s i w : ℕ) (f : ℕ → ℕ) → s + i < length xs → ((k : ℕ) → k < i → get_or xs (s + k) 0 ≡ f k) → w ≡ f i → (k : ℕ) → k < i + 1 → get_or (set xs (s + i) w) (s + k) 0 ≡ f k
-put_from xs s i w f l below here =
-    below_more _ _
-    (λ k h. let ne : s + k ≢ s + i = omega arith in rw get_or-set_other (below k h))
-    (rw get_or-set_same here)
 
 pub padded : (xs : List ℕ) (n z k : ℕ) → k < length xs + n → get_or (xs ++ replicate n z) k 0 ≡ get_or xs k z
 padded [] n z k h = get_or-replicate n k z 0 (omega arith)

@@ -1,7 +1,7 @@
 // Elimination over the words of any field: which vector of a family is the first that depends on
 // those before it, and the coefficients of a vector over independent ones.
 // Works in memory of its own, and touches nothing else but the output that is lent for a solution.
-ghost use Rattle.std.specs.Prelude.{◌≡◌, ℕ, ◌+◌, ◌*◌, ◌<◌, ◌≤◌, true, false, ◌≢◌, [], length, get_or, replicate, Some, None, Err, OnOk, OnErr, IsErrOf, slice_index, slice_index_or};
+ghost use Rattle.std.specs.Prelude.{◌≡◌, ℕ, ◌+◌, ◌*◌, ◌<◌, ◌≤◌, true, false, ◌≢◌, [], length, get_or, replicate, MatchOption, Err, OnOk, OnErr, IsErrOf, slice_index, slice_index_or};
 ghost use Rattle.field.specs.Meaning.{FieldLaws};
 ghost use Rattle.algebra.specs.Elements.{Elem, Elems};
 ghost use Rattle.linear.specs.Echelon.{reduced};
@@ -118,7 +118,7 @@ impl<const ROWS: usize> Echelon<ROWS> {
         ensures pivots { self.new.pivots ≡ self.old.pivots }
         ensures work { length self.new.work ≡ pitch }
         ensures left { (k : ℕ) → k < width → slice_index self.new.work k ≡ reduced (F.Field.meaning field.now).add (F.Field.meaning field.now).mul (F.Field.meaning field.now).neg (λ i j. slice_index (slice_index_or self.old.rows i []) j) (λ i. slice_index self.old.pivots i) (λ j. get_or vector.now j (F.Field.meaning field.now).zero) count k }
-        ensures place { elim result [ Some p ↦ (p < length vector.now) × (slice_index self.new.work p ≢ (F.Field.meaning field.now).zero) × ((k : ℕ) → k < p → slice_index self.new.work k ≡ (F.Field.meaning field.now).zero) | None ↦ (k : ℕ) → k < length vector.now → slice_index self.new.work k ≡ (F.Field.meaning field.now).zero ] }
+        ensures place { MatchOption result ((k : ℕ) → k < length vector.now → slice_index self.new.work k ≡ (F.Field.meaning field.now).zero) (λ p. (p < length vector.now) × (slice_index self.new.work p ≢ (F.Field.meaning field.now).zero) × ((k : ℕ) → k < p → slice_index self.new.work k ≡ (F.Field.meaning field.now).zero)) }
     {
         rows::begin(field, &mut self.work, vector);
         self.reduce(field, count, width);

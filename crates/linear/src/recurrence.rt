@@ -1,6 +1,6 @@
 // Berlekamp and Massey: the least length of a linear recurrence of lent words, and its connection
 // polynomial. Work words are lent too.
-ghost use Rattle.std.specs.Prelude.{◌≡◌, ℕ, ◌+◌, ◌-◌, ◌<◌, ◌≤◌, ◌++◌, length, take, drop, Some, None, slice_index};
+ghost use Rattle.std.specs.Prelude.{◌≡◌, ℕ, ◌+◌, ◌-◌, ◌<◌, ◌≤◌, ◌++◌, length, take, drop, IfSome, IfNone, MatchOption, slice_index};
 ghost use Rattle.linear.specs.Words.{sum_words, added};
 ghost use Rattle.linear.specs.Recurrence.{Room, Shortest};
 ghost use Rattle.linear.specs.Massey.{Held};
@@ -10,6 +10,7 @@ use field::Field;
 
 // What stands between two words: the length of the polynomial, how many words ago the one before
 // the latest change of length failed, and by what.
+// Not one struct with c, b and spare: a copy of one to another behind `&mut self` gets no proof yet.
 #[derive(Clone, Copy)]
 struct Stage {
     length: usize,
@@ -131,9 +132,9 @@ pub fn recurrence_length<F: Field>(
     b: &mut [u32],
     spare: &mut [u32],
 ) -> Option<usize>
-    ensures shortest { elim result [ Some l ↦ Shortest (F.Field.meaning field.now) s.now (take (length s.now + 1) c.new) l | None ↦ Unit {0} ] }
-    ensures refused_as_was { elim result [ Some _ ↦ Unit {0} | None ↦ (c.new ≡ c.old) × (b.new ≡ b.old) × (spare.new ≡ spare.old) ] }
-    ensures answers { elim result [ Some _ ↦ Room s.now c.old b.old spare.old | None ↦ (Room s.now c.old b.old spare.old → ⊥) ] }
+    ensures shortest { IfSome result (λ l. Shortest (F.Field.meaning field.now) s.now (take (length s.now + 1) c.new) l) }
+    ensures refused_as_was { IfNone result ((c.new ≡ c.old) × (b.new ≡ b.old) × (spare.new ≡ spare.old)) }
+    ensures answers { MatchOption result (Room s.now c.old b.old spare.old → ⊥) (λ _. Room s.now c.old b.old spare.old) }
     ensures rest_unchanged { (drop (length s.now + 1) c.new ≡ drop (length s.now + 1) c.old) × (drop (length s.now + 1) b.new ≡ drop (length s.now + 1) b.old) × (drop (length s.now + 1) spare.new ≡ drop (length s.now + 1) spare.old) }
 {
     let n = s.len();

@@ -1,5 +1,5 @@
 // The loops of the elimination over the words of one row.
-ghost use Rattle.std.specs.Prelude.{◌≡◌, ℕ, ◌+◌, ◌<◌, ◌≤◌, ◌≢◌, length, Some, None, slice_index, slice_index_or};
+ghost use Rattle.std.specs.Prelude.{◌≡◌, ℕ, ◌+◌, ◌<◌, ◌≤◌, ◌≢◌, length, MatchOption, slice_index, slice_index_or};
 ghost use Rattle.linear.specs.Elimination.{pitch};
 
 use field::Field;
@@ -20,7 +20,7 @@ pub(super) fn begin<F: Field>(field: &F, row: &mut [u32], vector: &[u32])
 // The first place, of so many, whose word is not zero.
 pub(super) fn first_nonzero<F: Field>(field: &F, row: &[u32], places: usize) -> Option<usize>
     requires { places ≤ length row.now }
-    ensures { elim result [ Some p ↦ (p < places) × (slice_index row.now p ≢ (F.Field.meaning field.now).zero) × ((k : ℕ) → k < p → slice_index row.now k ≡ (F.Field.meaning field.now).zero) | None ↦ (k : ℕ) → k < places → slice_index row.now k ≡ (F.Field.meaning field.now).zero ] }
+    ensures { MatchOption result ((k : ℕ) → k < places → slice_index row.now k ≡ (F.Field.meaning field.now).zero) (λ p. (p < places) × (slice_index row.now p ≢ (F.Field.meaning field.now).zero) × ((k : ℕ) → k < p → slice_index row.now k ≡ (F.Field.meaning field.now).zero)) }
 {
     let zero = field.zero();
     row[..places].iter().position(|word| *word != zero)
