@@ -1,9 +1,9 @@
 -- The products outside a list of monomials, sorted, are its border.
-use Rattle.std.proofs.Common.{◌≡◌, ℕ, ◌+◌, ◌<◌, ◌≤◌, Bool, true, false, ◌≢◌, ◌⊎◌, List, map, length, get_or, take, sym, ap, ◌∙◌, subst, inl, inr, arith}
+use Rattle.std.proofs.Common.{◌≡◌, ℕ, ◌+◌, ◌<◌, ◌≤◌, Bool, true, false, ◌≢◌, ◌⊎◌, List, map, length, get_or, sym, ap, ◌∙◌, subst, inl, inr, arith}
 use mathlib.Core.Bool.{false≢true}
 use native.Mathlib.Decide.{ℕ_discrete, dec_lt}
 use Rattle.std.specs.List.{ContainsAt as Has, AllByRecursion}
-use Rattle.std.proofs.lemmas.List.{length-map, length-take-le, get_or-map, get_or_default}
+use Rattle.std.proofs.lemmas.List.{length-map, get_or-map, get_or_default}
 use Rattle.std.proofs.ByRecursion.{All-get_or, All-from_get_or, all-has, All-weaker, All-map}
 use Rattle.std.proofs.lemmas.Bool.{cases_Bool}
 use Rattle.order.specs.declared.monomial.Monomial.{Monomial}
@@ -131,11 +131,9 @@ module _ (n : ℕ) (stairs : List Monomial) (Q : Raisable n stairs) where
     products : (K I : ℕ) (l : List Monomial) → ((k i : ℕ) → Taken stairs K I k i → (k < n) × (i < length stairs)) → Edged stairs K I l → AllByRecursion Product l
     products K I l covered x = All-weaker _ Product (λ t y. let q = covered y.0 y.1 y.2 in (y.0, y.1, q.0, q.1, y.3)) l x.each
 
-    -- the front of a list that holds the products of all n variables, and how long it is
-    pub border_written : (k : ℕ) (after : List Monomial) → k ≤ length after → Edges cmp stairs n 0 (take k after) → (k ≡ length (edges_of cmp n stairs)) × (take k after ≡ map (flat n) (edges_of cmp n stairs))
-    border_written k after h (l, e, x) =
-        let is = e ∙ border-found l (products n 0 l covered x) (λ t p. x.all p.0 p.1 t (inl (p.2, p.3)) p.4) in
-        (sym (length-take-le k after h) ∙ ap length is ∙ length-map (edges_of cmp n stairs) (flat n), is)
+    -- the products of all n variables, in order, are the border
+    pub border_is : (e : List Monomial) → Edges cmp stairs n 0 e → e ≡ map (flat n) (edges_of cmp n stairs)
+    border_is e (l, is, x) = is ∙ border-found l (products n 0 l covered x) (λ t p. x.all p.0 p.1 t (inl (p.2, p.3)) p.4)
       where
         covered : (k i : ℕ) → Taken stairs n 0 k i → (k < n) × (i < length stairs)
         covered k i (inl y) = y

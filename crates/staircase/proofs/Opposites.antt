@@ -1,8 +1,8 @@
 -- The coefficients of a list of terms, one term at a time, and the words of the first rule.
-use Rattle.std.proofs.Common.{◌≡◌, ℕ, zero, suc, ◌+◌, ◌-◌, ◌<◌, ◌≤◌, Bool, true, false, cond, T, List, [], ◌∷◌, map, length, get_or, take, drop, Decides, sym, refl, ap, ◌∙◌, subst, ap₂, arith}
+use Rattle.std.proofs.Common.{◌≢◌, ◌≡◌, ℕ, zero, suc, ◌<◌, ◌≤◌, Bool, true, false, cond, T, List, [], ◌∷◌, map, length, get_or, take, Decides, sym, refl, ap, ◌∙◌, subst, ap₂, arith}
 use mathlib.Core.Bool.{false≢true}
 use Rattle.std.specs.List.{AllByRecursion}
-use Rattle.std.proofs.lemmas.List.{at_drop_more, at_drop_all, ext_get_or, length-map, length-take-le, get_or-map, get_or-take}
+use Rattle.std.proofs.lemmas.List.{ext_get_or, length-map, length-take-le, get_or-map, get_or-take}
 use Rattle.field.specs.Meaning.{FieldMeaning, FieldLaws, FieldTotal}
 use Rattle.order.specs.declared.monomial.Monomial.{Monomial}
 use Rattle.order.specs.Monomials as record_of
@@ -44,32 +44,24 @@ module _ (m : FieldMeaning) where
   abbrev pub coefficient_in : List Term → Monomial → ℕ
   coefficient_in terms x = coefficient (words m) variables (poly_of variables terms) (nested variables x)
 
-  pub no_terms : (terms : List Term) (i : ℕ) (x : Monomial) → length terms ≤ i → coefficient_in (drop i terms) x ≡ m.zero
-  no_terms terms i x h = at_drop_all (λ l. coefficient_in l x) terms i h
-
   -- one term more, from the end on
-  back : (terms : List Term) (d : Term) (i : ℕ) (x : Monomial) → 0 < i → i - 1 < length terms → (r : Bool) → Decides r ((get_or terms (i - 1) d).monomial ≡ x) → coefficient_in (drop (i - 1) terms) x ≡ m.add (m.mul (get_or terms (i - 1) d).coefficient (cond r m.one m.zero)) (coefficient_in (drop i terms) x)
-  back terms d i x pos h r e =
-      let t = get_or terms (i - 1) d in
-      let s : i - 1 + 1 ≡ i = omega arith in
-      at_drop_more (λ l. coefficient_in l x) terms (i - 1) d h
-      ∙ ap₂ (λ (b : Bool) (k : ℕ). m.add (m.mul t.coefficient (cond b m.one m.zero)) (coefficient_in (drop k terms) x)) (test_of variables (omega arith) t.monomial x (all_within t.monomial) (all_within x) r e) s
+  more : (t : Term) (done : List Term) (x : Monomial) (r : Bool) → Decides r (t.monomial ≡ x) → coefficient_in (t ∷ done) x ≡ m.add (m.mul t.coefficient (cond r m.one m.zero)) (coefficient_in done x)
+  more t done x r e = ap (λ (b : Bool). m.add (m.mul t.coefficient (cond b m.one m.zero)) (coefficient_in done x)) (test_of variables (omega arith) t.monomial x (all_within t.monomial) (all_within x) r e)
 
   module _ (laws : FieldLaws m) (out : FieldTotal m) where
     mul_elem : (a b : ℕ) → T (m.elem (m.mul a b))
     mul_elem a b = subst (λ (w : ℕ). T (m.elem w)) (sym (reading.mul_el m laws out a b)) ((field_of m laws).◌⊗◌ (el m laws a) (el m laws b)).1
 
-    pub term_counts : (terms : List Term) (d : Term) (i : ℕ) (x : Monomial) (sum next : ℕ) → 0 < i → i - 1 < length terms → Decides true ((get_or terms (i - 1) d).monomial ≡ x) → sum ≡ coefficient_in (drop i terms) x → next ≡ m.add (m.mul (get_or terms (i - 1) d).coefficient m.one) sum → T (m.elem next) × (next ≡ coefficient_in (drop (i - 1) terms) x)
-    term_counts terms d i x sum next pos h e inv is = (subst (λ (w : ℕ). T (m.elem w)) (sym is) (columns.add_elem m laws out _ _), is ∙ ap (m.add (m.mul (get_or terms (i - 1) d).coefficient m.one)) inv ∙ sym (back terms d i x pos h true e))
+    pub term_counts : (t : Term) (done : List Term) (x : Monomial) (sum next : ℕ) → t.monomial ≡ x → sum ≡ coefficient_in done x → next ≡ m.add (m.mul t.coefficient m.one) sum → T (m.elem next) × (next ≡ coefficient_in (t ∷ done) x)
+    term_counts t done x sum next e inv is = (subst (λ (w : ℕ). T (m.elem w)) (sym is) (columns.add_elem m laws out _ _), is ∙ ap (m.add (m.mul t.coefficient m.one)) inv ∙ sym (more t done x true (λ _. e, λ _. refl)))
 
     -- a term of another monomial adds nothing
-    pub term_skipped : (terms : List Term) (d : Term) (i : ℕ) (x : Monomial) (sum : ℕ) → 0 < i → i - 1 < length terms → Decides false ((get_or terms (i - 1) d).monomial ≡ x) → T (m.elem sum) → sum ≡ coefficient_in (drop i terms) x → sum ≡ coefficient_in (drop (i - 1) terms) x
-    term_skipped terms d i x sum pos h e s inv =
-        let c = (get_or terms (i - 1) d).coefficient in
-        columns.skipped m laws out sum c m.zero s refl
-        ∙ laws.add_comm sum (m.mul c m.zero) s (mul_elem c m.zero)
-        ∙ ap (m.add (m.mul c m.zero)) inv
-        ∙ sym (back terms d i x pos h false e)
+    pub term_skipped : (t : Term) (done : List Term) (x : Monomial) (sum : ℕ) → t.monomial ≢ x → T (m.elem sum) → sum ≡ coefficient_in done x → sum ≡ coefficient_in (t ∷ done) x
+    term_skipped t done x sum d s inv =
+        columns.skipped m laws out sum t.coefficient m.zero s refl
+        ∙ laws.add_comm sum (m.mul t.coefficient m.zero) s (mul_elem t.coefficient m.zero)
+        ∙ ap (m.add (m.mul t.coefficient m.zero)) inv
+        ∙ sym (more t done x false (λ e. absurd (false≢true e), λ e. absurd (d e)))
 
   pub opposites_written : (rest : List Term) (stairs : List Monomial) (out : List ℕ) → length stairs ≤ length out → ((j : ℕ) → j < length stairs → get_or out j 0 ≡ m.neg (coefficient_in rest (get_or stairs j record_of.one))) → take (length stairs) out ≡ opposite_words m rest stairs
   opposites_written rest stairs out h each =

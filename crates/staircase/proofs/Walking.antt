@@ -1,6 +1,8 @@
 -- What one offer, the products of one monomial, and the walk itself keep.
 use Rattle.std.proofs.Common.{◌≡◌, ℕ, ◌+◌, ◌<◌, Bool, true, false, cond, ◌&&◌, ltb, ◌≢◌, List, [], ◌∷◌, ◌++◌, length, get_or, Some, None, sym, refl, ap, ◌∙◌, subst, inl, inr, arith}
+use mathlib.Core.Bool.{false≢true}
 use native.Mathlib.Decide.{dec_lt, ℕ_discrete}
+use Rattle.std.specs.Prelude.{Option, is_some}
 use Rattle.std.specs.List.{ContainsAt as Has}
 use Rattle.std.proofs.lemmas.List.{append-nil, append_assoc, length_push, get_or_push, get_or_append_left, get_or_default}
 use Rattle.std.proofs.ByRecursion.{All-push, has_append_left, has_push}
@@ -19,6 +21,14 @@ place_has l m i p = (i, p.0, λ d. get_or_default l i d one p.0 ∙ p.1)
 
 pub place_none : (l : List Monomial) (m : Monomial) → FirstPlace l m None → Has l m → ⊥
 place_none l m p h = p h.0 h.1 (h.2 one)
+
+pub place_some : (l : List Monomial) (m : Monomial) (r : Option ℕ) → FirstPlace l m r → true ≡ is_some r → Has l m
+place_some l m (Some i) p e = place_has l m i p
+place_some l m None p e = absurd (false≢true (sym e))
+
+pub place_nowhere : (l : List Monomial) (m : Monomial) (r : Option ℕ) → FirstPlace l m r → false ≡ is_some r → Has l m → ⊥
+place_nowhere l m (Some i) p e = absurd (false≢true e)
+place_nowhere l m None p e = place_none l m p
 
 -- what a product by a variable is, where there is one
 pub raised_some : (k : ℕ) (m t : Monomial) → raised k m ≡ Some t → (k < variables) × (exponent m k < largest) × (t ≡ raise k m)

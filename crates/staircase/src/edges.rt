@@ -1,73 +1,61 @@
-// The border of a staircase, in increasing order. Writes the front of the list that it is lent.
-ghost use Rattle.std.specs.Prelude.{◌≡◌, ℕ, ◌+◌, ◌<◌, ◌≤◌, List, length, take, drop, Some, None};
+// The border of a staircase, in increasing order.
+ghost use Rattle.std.specs.Prelude.{◌≡◌, ℕ, ◌+◌, ◌≤◌, List, length, Some, MatchOption, MatchResult};
 ghost use Rattle.std.specs.List.{ContainsAt as Has};
 ghost use Rattle.order.specs.declared.monomial.Monomial.{Monomial as Record};
 ghost use Rattle.order.specs.Monomials as def;
-ghost use Rattle.staircase.specs.Edges.{Raisable, BorderAnswer, PastStays, StairsRaisable, Edges};
+ghost use Rattle.staircase.specs.Edges.{Raisable, BorderAnswer, StairsRaisable, Edges};
 
+use crate::TooMany;
 use crate::search::place_of;
 use crate::sorting::insert;
+use arrayvec::{ArrayVec, CapacityError};
 use order::{Monomial, Order};
 
 // The product of `m` and the variable of index `k`, where it is outside `stairs`.
 fn outside(k: usize, stairs: &[Monomial], m: Monomial) -> Option<Monomial>
-    ensures { elim result [ Some t ↦ (def.raised k m ≡ Some t) × (Has stairs.now t → ⊥) | None ↦ ((t : Record) → def.raised k m ≡ Some t → Has stairs.now t) ] }
+    ensures { MatchOption result ((t : Record) → def.raised k m ≡ Some t → Has stairs.now t) (λ t. (def.raised k m ≡ Some t) × (Has stairs.now t → ⊥)) }
 {
-    match m.raised(k) {
-        None => None,
-        Some(t) => match place_of(stairs, t) {
-            Some(_) => None,
-            None => Some(t),
-        },
+    let t = m.raised(k)?;
+    match place_of(stairs, t) {
+        Some(_) => None,
+        None => Some(t),
     }
 }
 
-// Puts the products of the variable of index `k` that are outside into the increasing first `count`
-// of `edges`, and says how many there are then: none where there is no room for them.
-fn add_products<O: Order>(
+// Puts the products of the variable of index `k` that are outside into the increasing `edges`: an
+// error where there is no room for them.
+fn add_products<O: Order, const CAP: usize>(
     order: &O,
     k: usize,
     stairs: &[Monomial],
-    edges: &mut [Monomial],
-    count: usize,
-) -> Option<usize>
-    requires room { count ≤ length edges.old }
-    requires edges { Edges (O.Order.meaning order.now) stairs.now k 0 (take count edges.old) }
-    ensures { elim result [ Some c ↦ (count ≤ c) × (c ≤ length edges.old) × Edges (O.Order.meaning order.now) stairs.now (k + 1) 0 (take c edges.new) × (drop c edges.new ≡ drop c edges.old) | None ↦ ((i : ℕ) × (e : List Record) × (i ≤ length stairs.now) × (length e ≡ length edges.old + 1) × Edges (O.Order.meaning order.now) stairs.now k i e) ] }
+    edges: &mut ArrayVec<Monomial, CAP>,
+) -> Result<(), CapacityError<Monomial>>
+    requires { Edges (O.Order.meaning order.now) stairs.now k 0 edges.old.items }
+    ensures { MatchResult result (λ _. Edges (O.Order.meaning order.now) stairs.now (k + 1) 0 edges.new.items) (λ _. (i : ℕ) × (e : List Record) × (i ≤ length stairs.now) × (length e ≡ CAP + 1) × Edges (O.Order.meaning order.now) stairs.now k i e) }
 {
-    let mut count = count;
     for m in stairs {
         let Some(t) = outside(k, stairs, *m) else {
             continue;
         };
-        match insert(order, edges, count, t) {
-            Some(c) => count = c,
-            None => return None,
-        }
+        insert(order, edges, t)?;
     }
-    Some(count)
+    Ok(())
 }
 
 // The products of a monomial of `stairs` and one of the first `n` variables that are outside, in
-// increasing order at the front of `edges`, and how many there are: none where that is no room for
-// all, and then what `edges` holds is not said.
-pub fn border<O: Order>(
+// increasing order.
+pub fn border<O: Order, const CAP: usize>(
     order: &O,
     n: usize,
     stairs: &[Monomial],
-    edges: &mut [Monomial],
-) -> Option<usize>
-    ensures border { Raisable n stairs.now → BorderAnswer (O.Order.meaning order.now) n stairs.now edges.old edges.new result }
-    ensures rest_unchanged { PastStays edges.old edges.new result }
+) -> Result<ArrayVec<Monomial, CAP>, TooMany>
+    ensures { Raisable n stairs.now → BorderAnswer (O.Order.meaning order.now) n stairs.now CAP result }
 {
-    let mut count = 0;
+    let mut edges = ArrayVec::new();
     for k in 0..n {
-        match add_products(order, k, stairs, edges, count) {
-            Some(c) => count = c,
-            None => return None,
-        }
+        add_products(order, k, stairs, &mut edges)?;
     }
-    Some(count)
+    Ok(edges)
 }
 
 // A staircase is such a list, so that its border is what `border` writes.

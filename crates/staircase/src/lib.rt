@@ -1,5 +1,5 @@
-// The staircase of leading monomials, its border and the places of the products, made over lent
-// lists of monomials under any order. Nothing here allocates or holds state.
+// The staircase of leading monomials, its border and the places of the products, under any order.
+// Lists have a fixed capacity: nothing here allocates or holds state.
 #![tactic(auto)]
 
 pub mod edges;
@@ -14,4 +14,4 @@ pub use edges::border;
 pub use products::places;
 pub use rules::{Term, next_column, opposite_column};
 pub use search::{any_divides, place_of};
-pub use stairs::{StairsFault, staircase};
+pub use stairs::{TooMany, staircase};

@@ -1,7 +1,7 @@
 // The two rules of normal forms, a column of words each: a leading monomial has the opposite of the
 // rest of its polynomial, any other border monomial a matrix step of a column before it. Writes only
 // the words that it is lent.
-ghost use Rattle.std.specs.Prelude.{◌≡◌, ◌+◌, ◌*◌, ◌≤◌, false, T, ◌↔◌, length, take, drop, Some, None};
+ghost use Rattle.std.specs.Prelude.{◌≡◌, ◌+◌, ◌*◌, ◌≤◌, ◌↔◌, length, take, drop, MatchOption, IsOk, OnOk, OnErr};
 ghost use Rattle.order.specs.Monomials.{variables};
 ghost use Rattle.algebra.specs.Records.{nested};
 ghost use Rattle.algebra.specs.NormalForm as forms;
@@ -9,9 +9,8 @@ ghost use Rattle.algebra.specs.Words.{words};
 ghost use Rattle.staircase.specs.Rules.{poly_of, opposite_words, OppositesRule};
 ghost use Rattle.staircase.specs.Steps.{StepsReplace, ColumnMore, ColumnsNone, Steppable, ColumnStepped};
 
-use crate::search::same;
 use field::Field;
-use linear::step::{Place, step};
+use linear::step::{Misfit, Place, step};
 use order::Monomial;
 
 // A word times a monomial.
@@ -26,34 +25,34 @@ fn coefficient_of<F: Field>(field: &F, terms: &[Term], m: Monomial) -> u32
     ensures { result ≡ forms.coefficient (words (F.Field.meaning field.now)) variables (poly_of variables terms.now) (nested variables m) }
 {
     let mut sum = field.zero();
-    for i in (0..terms.len()).rev() {
-        if same(terms[i].monomial, m) {
-            sum = field.add(field.mul(terms[i].coefficient, field.one()), sum);
+    for t in terms.iter().rev() {
+        if t.monomial == m {
+            sum = field.add(field.mul(t.coefficient, field.one()), sum);
         }
     }
     sum
 }
 
 // The normal form of a monomial that leads a polynomial, from the rest of that polynomial, at the
-// front of `out`: false, and nothing is written, where there is no room.
+// front of `out`: an error, and nothing is written, where there is no room.
 pub fn opposite_column<F: Field>(
     field: &F,
     rest: &[Term],
     stairs: &[Monomial],
     out: &mut [u32],
-) -> bool
-    ensures fits { T result ↔ (length stairs.now ≤ length out.old) }
-    ensures refused_as_was { result ≡ false → out.new ≡ out.old }
-    ensures column { T result → take (length stairs.now) out.new ≡ opposite_words (F.Field.meaning field.now) rest.now stairs.now }
+) -> Result<(), Misfit>
+    ensures fits { IsOk result ↔ (length stairs.now ≤ length out.old) }
+    ensures refused_as_was { OnErr result (out.new ≡ out.old) }
+    ensures column { OnOk result (take (length stairs.now) out.new ≡ opposite_words (F.Field.meaning field.now) rest.now stairs.now) }
     ensures rest_unchanged { drop (length stairs.now) out.new ≡ drop (length stairs.now) out.old }
 {
     if out.len() < stairs.len() {
-        return false;
+        return Err(Misfit);
     }
-    for j in 0..stairs.len() {
-        out[j] = field.neg(coefficient_of(field, rest, stairs[j]));
+    for (j, m) in stairs.iter().enumerate() {
+        out[j] = field.neg(coefficient_of(field, rest, *m));
     }
-    true
+    Ok(())
 }
 
 // Those words are the normal form that the first rule gives.
@@ -65,22 +64,15 @@ pub fn opposites_are_normal_forms() -> u8
 
 // Where the column at place `c` begins, if its `d` words lie within `room` words.
 fn column_start(c: usize, d: usize, room: usize, stride: usize) -> Option<usize>
-    ensures { elim result [ Some s ↦ (s ≡ c * stride) × (c * stride + d ≤ room) | None ↦ (c * stride + d ≤ room → ⊥) ] }
+    ensures { MatchOption result (c * stride + d ≤ room → ⊥) (λ s. (s ≡ c * stride) × (c * stride + d ≤ room)) }
 {
-    match c.checked_mul(stride) {
-        None => None,
-        Some(start) => {
-            if start <= room && d <= room - start {
-                Some(start)
-            } else {
-                None
-            }
-        }
-    }
+    let start = c.checked_mul(stride)?;
+    let left = room.checked_sub(start)?;
+    (d <= left).then_some(start)
 }
 
 // The column at place `to` by the second rule: the matrix of a variable, whose products stand at
-// `places`, times the column at place `from`. `out` is room to work in; false, and no column is
+// `places`, times the column at place `from`. `out` is room to work in; an error, and no column is
 // written, where something does not fit.
 pub fn next_column<F: Field>(
     field: &F,
@@ -91,26 +83,18 @@ pub fn next_column<F: Field>(
     from: usize,
     to: usize,
     out: &mut [u32],
-) -> bool
-    ensures fits { T result ↔ Steppable d places.now (length columns.old) stride from to (length out.old) }
-    ensures refused_as_was { result ≡ false → columns.new ≡ columns.old }
+) -> Result<(), Misfit>
+    ensures fits { IsOk result ↔ Steppable d places.now (length columns.old) stride from to (length out.old) }
+    ensures refused_as_was { OnErr result (columns.new ≡ columns.old) }
     ensures others_unchanged { (take (to * stride) columns.new ≡ take (to * stride) columns.old) × (drop (to * stride + d) columns.new ≡ drop (to * stride + d) columns.old) }
-    ensures stepped { T result → ColumnStepped (F.Field.meaning field.now) d places.now columns.old stride from to columns.new }
+    ensures stepped { OnOk result (ColumnStepped (F.Field.meaning field.now) d places.now columns.old stride from to columns.new) }
 {
-    let start = match column_start(from, d, columns.len(), stride) {
-        Some(start) => start,
-        None => return false,
-    };
-    let at = match column_start(to, d, columns.len(), stride) {
-        Some(at) => at,
-        None => return false,
-    };
+    let start = column_start(from, d, columns.len(), stride).ok_or(Misfit)?;
+    let at = column_start(to, d, columns.len(), stride).ok_or(Misfit)?;
     let held = &columns[..];
-    if !step(field, d, places, held, stride, &held[start..start + d], out) {
-        return false;
-    }
+    step(field, d, places, held, stride, &held[start..start + d], out)?;
     columns[at..at + d].copy_from_slice(&out[..d]);
-    true
+    Ok(())
 }
 
 // The matrix step of linear algebra is the second rule, where the columns hold the table so far; and a

@@ -1,28 +1,33 @@
-use Rattle.std.proofs.Common.{ℕ, ◌-◌, T, length, get_or, sym, ap, ◌∙◌, subst, arith}
-use Rattle.order.specs.Monomials.{one, monomial}
+use Rattle.std.proofs.Common.{◌≡◌, ℕ, ◌≢◌, T, List, [], ◌∷◌, sym, ap, ◌∙◌, subst, rules}
 use Rattle.staircase.specs.declared.rules.Term.{Term}
-use Rattle.staircase.proofs.Opposites.{no_terms, term_counts, term_skipped}
+use Rattle.staircase.proofs.Backwards.{back_none, back_more, back_all}
+use Rattle.staircase.proofs.Opposites.{coefficient_in, term_counts, term_skipped}
 use Rattle.staircase.proofs.rules.coefficient_of.Goals as goal
 
-blank : Term
-blank = record { coefficient = 0; monomial = one }
-
-pub loop-i-init : goal.loop-i-init
-loop-i-init g c =
+pub loop-t-init : goal.loop-t-init
+loop-t-init g c =
     let m = g.F.Field.meaning c.args.field.now in
-    let laws = g.met.F.Field.lawful c.args.field.now in
-    (subst (λ (w : ℕ). T (m.elem w)) (sym c.zero-sum.ensures) laws.zero_in, c.zero-sum.ensures ∙ sym (no_terms m c.args.terms.now (length c.args.terms.now) c.args.m (omega arith)))
+    ([], back_none c.args.terms.now _ (search rules), subst (λ (w : ℕ). T (m.elem w)) (sym c.zero-sum.ensures) (g.met.F.Field.lawful c.args.field.now).zero_in, c.zero-sum.ensures)
 
-pub loop-i-preserved-then-same : goal.loop-i-preserved-then-same
-unfolding blank one monomial
-loop-i-preserved-then-same g c =
+pub loop-t-preserved-then-eq : goal.loop-t-preserved-then-eq
+loop-t-preserved-then-eq g c =
     let m = g.F.Field.meaning c.args.field.now in
-    let coefficient = (get_or c.args.terms.now (c.loop-i.i - 1) blank).coefficient in
-    term_counts m (g.met.F.Field.lawful c.args.field.now) (g.met.F.Field.everywhere c.args.field.now) c.args.terms.now blank c.loop-i.i c.args.m c.loop-i.sum c.add-sum.result (omega arith) (omega arith) c.if-same.ensures c.loop-i.invariant.1
-    (c.add-sum.ensures ∙ ap (λ (x : ℕ). m.add x c.loop-i.sum) (c.mul.ensures ∙ ap (m.mul coefficient) c.one.ensures))
+    let inv = c.loop-t.invariant in
+    let t = c.in-Some.t.now in
+    let same : c.in-Some.t.now.monomial ≡ c.args.m = search rules in
+    let n = term_counts m (g.met.F.Field.lawful c.args.field.now) (g.met.F.Field.everywhere c.args.field.now) t inv.0 c.args.m c.loop-t.sum c.add-sum.result same inv.3
+    (c.add-sum.ensures ∙ ap (λ (x : ℕ). m.add x c.loop-t.sum) (c.mul.ensures ∙ ap (m.mul t.coefficient) c.one.ensures)) in
+    (t ∷ inv.0, back_more c.args.terms.now _ inv.0 _ t inv.1 c.in-Some.ensures.steps, n.0, n.1)
 
-pub loop-i-preserved : goal.loop-i-preserved
-unfolding blank one monomial
-loop-i-preserved g c =
+pub loop-t-preserved : goal.loop-t-preserved
+loop-t-preserved g c =
     let m = g.F.Field.meaning c.args.field.now in
-    (c.loop-i.invariant.0, term_skipped m (g.met.F.Field.lawful c.args.field.now) (g.met.F.Field.everywhere c.args.field.now) c.args.terms.now blank c.loop-i.i c.args.m c.loop-i.sum (omega arith) (omega arith) c.if-same.ensures c.loop-i.invariant.0 c.loop-i.invariant.1)
+    let inv = c.loop-t.invariant in
+    let t = c.in-Some.t.now in
+    let other : c.in-Some.t.now.monomial ≢ c.args.m = search rules in
+    (t ∷ inv.0, back_more c.args.terms.now _ inv.0 _ t inv.1 c.in-Some.ensures.steps, inv.2, term_skipped m (g.met.F.Field.lawful c.args.field.now) (g.met.F.Field.everywhere c.args.field.now) t inv.0 c.args.m c.loop-t.sum other inv.2 inv.3)
+
+pub returns : goal.returns
+returns g c =
+    let inv = c.loop-t.invariant in
+    inv.3 ∙ ap (λ (l : List Term). coefficient_in (g.F.Field.meaning c.args.field.now) l c.args.m) (back_all c.args.terms.now _ inv.0 inv.1 c.in-None.ensures.steps.0)

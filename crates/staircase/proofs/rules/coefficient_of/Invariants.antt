@@ -1,6 +1,9 @@
-use Rattle.std.proofs.Common.{◌≡◌, T, drop}
+use Rattle.std.proofs.Common.{◌≡◌, T, List, ◌++◌}
+use Rattle.staircase.specs.declared.rules.Term.{Term}
 use Rattle.staircase.proofs.Opposites.{coefficient_in}
 use Rattle.staircase.proofs.rules.coefficient_of.Given as goal
 
-abbrev pub invariant-loop-i : goal.invariant-loop-i
-invariant-loop-i g l = T ((g.F.Field.meaning l.field).elem l.sum) × (l.sum ≡ coefficient_in (g.F.Field.meaning l.field) (drop l.i l.terms) l.m)
+abbrev pub invariant-loop-t : goal.invariant-loop-t
+invariant-loop-t g l =
+    let m = g.F.Field.meaning l.field in
+    (done : List Term) × (l.terms ≡ l.t-iterator.iter.rest.now ++ done) × T (m.elem l.sum) × (l.sum ≡ coefficient_in m done l.m)

@@ -1,14 +1,12 @@
-use Rattle.order.specs.Monomials.{divides, one, monomial}
-use Rattle.staircase.proofs.Searches.{any_hit, any_more, any_none}
+use Rattle.std.proofs.Common.{sym, ◌∙◌, rules, tests}
+use Rattle.std.proofs.lemmas.Iterator.{YieldsList-from_slice}
+use Rattle.std.proofs.lemmas.Iterator.Search.{any_from_yields_List}
+use Rattle.order.specs.Monomials.{divides}
+use Rattle.staircase.proofs.Searches.{any_is_list_any}
 use Rattle.staircase.proofs.search.any_divides.Goals as goal
 
-pub returns-then-divides : goal.returns-then-divides
-unfolding one monomial
-returns-then-divides c = any_hit (λ l. divides l c.args.m) _ _ c.loop-l.invariant one c.loop-l-test.true c.if-divides.ensures
-
-pub loop-l-preserved : goal.loop-l-preserved
-unfolding one monomial
-loop-l-preserved c = any_more (λ l. divides l c.args.m) _ _ c.loop-l.invariant one c.loop-l-test.true c.if-divides.ensures
-
 pub returns : goal.returns
-returns c = any_none (λ l. divides l c.args.m) _ _ c.loop-l.invariant c.loop-l-test.false
+returns c =
+    let ls = c.args.leads.now in
+    any_from_yields_List (λ l. divides l c.args.m) _ _ c.any.result c.any.ensures.ran (YieldsList-from_slice ls cc) (λ x b q k. search (rules, tests))
+    ∙ sym (any_is_list_any (λ l. divides l c.args.m) ls)

@@ -1,22 +1,35 @@
-use Rattle.std.proofs.Common.{◌-◌, get_or, sym, refl, ap, ◌∙◌, arith}
-use Rattle.std.proofs.lemmas.List.{at_drop_all}
-use Rattle.order.specs.Monomials.{one, monomial}
+use Rattle.std.proofs.Common.{[], ◌∷◌, List, length, ap, ◌∙◌, arith, rules}
+use Rattle.std.proofs.lemmas.List.{length-append}
+use Rattle.std.proofs.lemmas.Result.{err_from_is_err_and}
+use Rattle.order.specs.declared.monomial.Monomial.{Monomial}
 use Rattle.staircase.specs.Sorting.{inserted_by, sorted_by}
-use Rattle.staircase.proofs.Insertion.{sorted_back, drops_on}
+use Rattle.staircase.proofs.Backwards.{back_none, back_more, back_all}
+use Rattle.staircase.proofs.Insertion.{sorted_shorter}
 use Rattle.staircase.proofs.sorting.sort.Goals as goal
 
-pub loop-i-init : goal.loop-i-init
+pub loop-m-init : goal.loop-m-init
 unfolding sorted_by
-loop-i-init g c = (omega arith, omega arith, sym (at_drop_all (sorted_by (g.O.Order.meaning c.args.order.now)) c.args.from.now _ (omega arith)), refl)
+loop-m-init g c = ([], back_none c.args.from.now _ (search rules), c.new-list.ensures)
 
-pub loop-i-preserved : goal.loop-i-preserved
-unfolding one monomial
-loop-i-preserved g c =
+pub loop-m-preserved : goal.loop-m-preserved
+unfolding sorted_by
+loop-m-preserved g c =
+    let inv = c.loop-m.invariant in
+    let m = c.in-Some.m.now in
+    (m ∷ inv.0, back_more c.args.from.now _ inv.0 _ m inv.1 c.in-Some.ensures.steps, c.in_ok-insert.ensures ∙ ap (inserted_by (g.O.Order.meaning c.args.order.now) m) inv.2)
+
+pub returns-in_err-insert : goal.returns-in_err-insert
+unfolding sorted_by
+returns-in_err-insert g c =
     let cmp = g.O.Order.meaning c.args.order.now in
-    let i = c.loop-i.i in
-    let w = c.in-Some.ensures in
-    let inv = c.loop-i.invariant in
-    (omega (arith, w.1, inv.0), omega (arith, w.2), w.3 ∙ ap (inserted_by cmp (get_or c.args.from.now (i - 1) one)) inv.2 ∙ sym (sorted_back cmp c.args.from.now one i (omega arith) (omega arith)), w.4 ∙ drops_on c.loop-i.count c.in-Some.k c.loop-i.into c.args.into.now w.0 inv.3)
+    let p = err_from_is_err_and c.from_residual.result c.from_residual.ensures.1 in
+    let inv = c.loop-m.invariant in
+    let m = c.in-Some.m.now in
+    let next = c.next.new.self.iter.rest.now in
+    let all = back_more c.args.from.now _ inv.0 next m inv.1 c.in-Some.ensures.steps in
+    rw p.1 (omega (arith, c.in_err-insert.ensures.1, ap (λ (l : List Monomial). length (inserted_by cmp m l)) inv.2, sorted_shorter cmp (m ∷ inv.0), ap length all, length-append next (m ∷ inv.0)))
 
-pub returns-in-None : goal.returns-in-None
-returns-in-None g c = let w = c.in-None.ensures in omega (arith, w.0, c.loop-i.invariant.0)
+pub returns : goal.returns
+returns g c =
+    let inv = c.loop-m.invariant in
+    inv.2 ∙ ap (sorted_by (g.O.Order.meaning c.args.order.now)) (back_all c.args.from.now _ inv.0 inv.1 c.in-None.ensures.steps.0)

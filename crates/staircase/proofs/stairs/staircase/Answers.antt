@@ -1,29 +1,21 @@
-use Rattle.std.proofs.Common.{◌≤◌, length, take, drop, refl, ap, ◌∙◌, arith, rules}
-use Rattle.std.proofs.lemmas.List.{length-take-le, take-append-le}
+use Rattle.std.proofs.Common.{length, ap, ◌∙◌, arith}
+use Rattle.std.proofs.lemmas.Result.{err_from_is_err_and}
 use Rattle.staircase.specs.Sorting.{sorted_by}
-use Rattle.staircase.proofs.Found.{staircase_written, found_fewer}
+use Rattle.staircase.proofs.Found.{staircase_found, found_fewer}
 use Rattle.staircase.proofs.stairs.staircase.Goals as goal
 
-pub returns-in-None : goal.returns-in-None
-returns-in-None g c =
-    let cmp = g.O.Order.meaning c.args.order.now in
-    let e = c.in-None.ensures in
-    record {
-      no_room = search rules;
-      staircase = λ Q. omega (arith, e.1, length-take-le (length c.args.stairs.now) c.args.found.now c.if-found-stairs.false, found_fewer c.args.n c.args.leads.now Q cmp (g.met.O.Order.lawful c.args.order.now) e.0 e.2);
-      rest_unchanged = refl;
-    }
+pub returns-in_err-found : goal.returns-in_err-found
+returns-in_err-found g c Q =
+    let p = err_from_is_err_and c.from_residual.result c.from_residual.ensures.1 in
+    let e = c.in_err-found.ensures in
+    rw p.1 (omega (arith, e.1, found_fewer c.args.n c.args.leads.now Q (g.O.Order.meaning c.args.order.now) (g.met.O.Order.lawful c.args.order.now) e.0 e.2))
 
-pub returns-in-Some-sort : goal.returns-in-Some-sort
-returns-in-Some-sort g c =
+pub returns-in_err-sort : goal.returns-in_err-sort
+returns-in_err-sort g c Q =
+    let p = err_from_is_err_and c.from_residual-in_err-sort.result c.from_residual-in_err-sort.ensures.1 in
+    rw p.1 (omega (arith, c.in_err-sort.ensures, ap length c.deref.ensures.0, found_fewer c.args.n c.args.leads.now Q (g.O.Order.meaning c.args.order.now) (g.met.O.Order.lawful c.args.order.now) c.in_ok-found.found.items c.in_ok-found.ensures.good))
+
+pub returns : goal.returns
+returns g c Q =
     let cmp = g.O.Order.meaning c.args.order.now in
-    let found = c.collect.new.found in
-    let count = c.in-Some.count in
-    let e = c.in-Some-sort.ensures in
-    let w = c.in-Some.ensures in
-    let le : count ≤ length found = omega (arith, w.0) in
-    record {
-      no_room = search rules;
-      staircase = λ Q. staircase_written c.args.n c.args.leads.now Q cmp (g.met.O.Order.lawful c.args.order.now) (take count found) count (length-take-le count found le) w.1 c.in-Some-sort.k c.sort.new.into (omega (arith, e.0)) (e.1 ∙ ap (sorted_by cmp) (take-append-le count found (drop (length c.args.stairs.now) c.args.found.now) le));
-      rest_unchanged = e.2;
-    }
+    c.in_ok-sort.ensures ∙ ap (sorted_by cmp) c.deref.ensures.0 ∙ staircase_found c.args.n c.args.leads.now Q cmp (g.met.O.Order.lawful c.args.order.now) c.in_ok-found.found.items c.in_ok-found.ensures
