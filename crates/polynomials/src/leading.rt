@@ -1,6 +1,6 @@
 // The questions of Close about the leading monomials and the later terms of the polynomials held.
 // Only reads, but for the list that leading monomials are put into.
-ghost use Rattle.std.specs.Prelude.{◌≡◌, ℕ, ◌≤◌, false, T, ◌↔◌, List, [], ◌∷◌, map, length, take, drop, Decides};
+ghost use Rattle.std.specs.Prelude.{◌≡◌, ℕ, ◌≤◌, false, T, ◌↔◌, List, [], ◌∷◌, map, length, take, drop, Decides, slice_index_or};
 ghost use Rattle.field.specs.Meaning.{FieldMeaning, FieldLaws};
 ghost use Rattle.order.specs.Monomials as def;
 ghost use Rattle.order.specs.Laws.{Comparison};
@@ -12,7 +12,7 @@ ghost use Rattle.runs.specs.Enter.{Enters};
 ghost use Rattle.runs.specs.Generators.{generators};
 ghost use Rattle.polynomials.specs.Held.{held, terms_of};
 ghost use Rattle.polynomials.specs.Asked.{Asked};
-ghost use Rattle.polynomials.specs.Leads.{lead_of, leads_of, lead_asks, inside_ask, not_one_ask, powers_ask, Apart, apart_ask, RestStands};
+ghost use Rattle.polynomials.specs.Leads.{lead_of, leads_of, lead_asks, inside_ask, not_one_ask, powers_ask, Apart, apart_ask, Stands, RestStands};
 
 use crate::{JobFault, Polynomials};
 use order::Monomial;
@@ -29,71 +29,55 @@ fn first_monomial(terms: &[Term]) -> Monomial
     }
 }
 
-// Whether no variable occurs.
-fn is_one(m: Monomial) -> bool
-    ensures { Decides result (m ≡ def.one) }
-{
-    m == Monomial::one()
-}
-
 // Whether none of `leads` is 1.
 fn ask_not_one(leads: &[Monomial]) -> Result<(), JobFault>
     ensures { Asked 0 (not_one_ask leads.now ∷ []) result }
 {
-    for (i, l) in leads.iter().enumerate() {
-        if is_one(*l) {
-            return Err(JobFault::LedByOne(i + 1));
-        }
+    match place_of(leads, Monomial::one()) {
+        Some(i) => Err(JobFault::LedByOne(i + 1)),
+        None => Ok(()),
     }
-    Ok(())
 }
 
 // Whether any of `leads` is a power of the variable of index `k` alone.
 fn any_power(leads: &[Monomial], k: usize) -> bool
     ensures { result ≡ any (def.power_of k) leads.now }
 {
-    for l in leads {
-        if l.is_power_of(k) {
-            return true;
-        }
-    }
-    false
+    leads.iter().any(|l| l.is_power_of(k))
 }
 
 // Whether each of `n` variables has a power of itself alone among `leads`.
 fn ask_powers(n: usize, leads: &[Monomial]) -> Result<(), JobFault>
     ensures { Asked 0 (powers_ask n leads.now ∷ []) result }
 {
-    for k in 0..n {
-        if !any_power(leads, k) {
-            return Err(JobFault::NoPower(k + 1));
-        }
+    match (0..n).position(|k| !any_power(leads, k)) {
+        Some(k) => Err(JobFault::NoPower(k + 1)),
+        None => Ok(()),
     }
-    Ok(())
 }
 
 // Whether none of `leads` divides `m`, but perhaps the one at place `i`.
 fn is_apart(leads: &[Monomial], i: usize, m: Monomial) -> bool
     ensures { Decides result (Apart leads.now i m) }
 {
-    for (q, l) in leads.iter().enumerate() {
-        if q != i && l.divides(m) {
-            return false;
-        }
-    }
-    true
+    leads
+        .iter()
+        .enumerate()
+        .all(|(q, l)| q == i || !l.divides(m))
 }
 
 // Whether none of `leads` divides another.
 fn ask_apart(leads: &[Monomial]) -> Result<(), JobFault>
     ensures { Asked 0 (apart_ask leads.now ∷ []) result }
 {
-    for (i, l) in leads.iter().enumerate() {
-        if !is_apart(leads, i, *l) {
-            return Err(JobFault::Divided(i + 1));
-        }
+    match leads
+        .iter()
+        .enumerate()
+        .position(|(i, l)| !is_apart(leads, i, *l))
+    {
+        Some(i) => Err(JobFault::Divided(i + 1)),
+        None => Ok(()),
     }
-    Ok(())
 }
 
 // The questions put to the leading monomials of polynomials of `n` variables, one after the other.
@@ -105,17 +89,18 @@ pub fn ask_leads(n: usize, leads: &[Monomial]) -> Result<(), JobFault>
     ask_apart(leads)
 }
 
+// Whether `m` is a member of the list.
+fn stands(list: &[Monomial], m: Monomial) -> bool
+    ensures { Decides result (Stands list.now m) }
+{
+    place_of(list, m).is_some()
+}
+
 // Whether each term but the first stands in the staircase.
 fn rest_stands(stairs: &[Monomial], terms: &[Term]) -> bool
     ensures { Decides result (RestStands stairs.now (terms_of terms.now)) }
 {
-    for i in 1..terms.len() {
-        match place_of(stairs, terms[i].monomial) {
-            Some(_) => {}
-            None => return false,
-        }
-    }
-    true
+    terms.iter().skip(1).all(|t| stands(stairs, t.monomial))
 }
 
 impl Polynomials {
@@ -137,15 +122,20 @@ impl Polynomials {
         true
     }
 
+    // Whether each later term of the polynomial at place `i` stands in the staircase.
+    fn is_inside(&self, i: usize, stairs: &[Monomial]) -> bool
+        ensures { Decides result (RestStands stairs.now (slice_index_or (held self.now) i [])) }
+    {
+        rest_stands(stairs, self.polynomial(i))
+    }
+
     // Whether each later term of each polynomial stands in the staircase.
     pub fn ask_inside(&self, stairs: &[Monomial]) -> Result<(), JobFault>
         ensures { (m : FieldMeaning) (laws : FieldLaws m) (cmp : Comparison) (n : ℕ) → n ≤ def.variables → Enters m cmp (new n) (held self.now) → stairs.now ≡ map (flat n) (staircase_of n (before_by cmp n) (generators m laws n (held self.now))) → Asked 0 (inside_ask m laws cmp n (held self.now) ∷ []) result }
     {
-        for i in 0..self.count() {
-            if !rest_stands(stairs, self.polynomial(i)) {
-                return Err(JobFault::Outside(i + 1));
-            }
+        match (0..self.count()).position(|i| !self.is_inside(i, stairs)) {
+            Some(i) => Err(JobFault::Outside(i + 1)),
+            None => Ok(()),
         }
-        Ok(())
     }
 }

@@ -1,7 +1,8 @@
 // The questions put before a polynomial is entered: whether there is room for it, and those of its
 // terms. Each function puts one, and answers the first that gets a no; only reads.
-ghost use Rattle.std.specs.Prelude.{◌≡◌, ℕ, T, ◌≢◌, [], ◌∷◌, Decides};
-ghost use Rattle.runs.specs.Job.{Job, coefficient_at};
+ghost use Rattle.std.specs.Prelude.{◌≡◌, ℕ, ◌≤◌, [], ◌∷◌, Decides};
+ghost use Rattle.order.specs.Monomials as def;
+ghost use Rattle.runs.specs.Job.{Job, coefficient_at, most_exponent};
 ghost use Rattle.runs.specs.Enter.{InRange, room_asks, terms_asks};
 ghost use Rattle.polynomials.specs.Held.{terms_of, held};
 ghost use Rattle.polynomials.specs.Asked.{Asked};
@@ -38,69 +39,62 @@ impl Polynomials {
 pub fn ask_elements<F: Field>(field: &F, terms: &[Term]) -> Result<(), JobFault>
     ensures { (line : ℕ) → Asked line (elements_ask (F.Field.meaning field.now) line (terms_of terms.now) ∷ []) result }
 {
-    for (i, t) in terms.iter().enumerate() {
-        if !field.contains(t.coefficient) {
-            return Err(JobFault::Coefficient(i + 1));
-        }
+    match terms.iter().position(|t| !field.contains(t.coefficient)) {
+        Some(i) => Err(JobFault::Coefficient(i + 1)),
+        None => Ok(()),
     }
-    Ok(())
-}
-
-// Whether a word is an element other than zero.
-fn is_nonzero<F: Field>(field: &F, w: u32) -> bool
-    ensures { Decides result (T ((F.Field.meaning field.now).elem w) × (w ≢ (F.Field.meaning field.now).zero)) }
-{
-    field.contains(w) && w != field.zero()
 }
 
 // Whether each coefficient is an element other than zero.
 fn ask_nonzero<F: Field>(field: &F, terms: &[Term]) -> Result<(), JobFault>
     ensures { (line : ℕ) → Asked line (nonzero_ask (F.Field.meaning field.now) line (terms_of terms.now) ∷ []) result }
 {
-    for (i, t) in terms.iter().enumerate() {
-        if !is_nonzero(field, t.coefficient) {
-            return Err(JobFault::Coefficient(i + 1));
-        }
+    match terms
+        .iter()
+        .position(|t| !field.is_nonzero_element(t.coefficient))
+    {
+        Some(i) => Err(JobFault::Coefficient(i + 1)),
+        None => Ok(()),
     }
-    Ok(())
 }
 
-// Whether the exponents are at most the largest of a term, and 0 past variable `n`.
+// Whether the exponent of the variable of index `k` is at most the largest of a term, and 0 past
+// variable `n`.
+fn is_allowed(n: usize, m: Monomial, k: usize) -> bool
+    ensures { Decides result ((def.exponent m k ≤ most_exponent) × (n ≤ k → def.exponent m k ≡ 0)) }
+{
+    let most = if k < n { MOST_EXPONENT } else { 0 };
+    m.exponent(k) <= most
+}
+
+// Whether all exponents are so.
 fn in_range(n: usize, m: Monomial) -> bool
     ensures { Decides result (InRange n m) }
 {
-    for k in 0..Monomial::VARIABLES {
-        let most = if k < n { MOST_EXPONENT } else { 0 };
-        if m.exponent(k) > most {
-            return false;
-        }
-    }
-    true
+    (0..Monomial::VARIABLES).all(|k| is_allowed(n, m, k))
 }
 
 // Whether the exponents of each term are so.
 pub fn ask_exponents(n: usize, terms: &[Term]) -> Result<(), JobFault>
     ensures { (line : ℕ) → Asked line (exponents_ask n line (terms_of terms.now) ∷ []) result }
 {
-    for (i, t) in terms.iter().enumerate() {
-        if !in_range(n, t.monomial) {
-            return Err(JobFault::Exponent(i + 1));
-        }
+    match terms.iter().position(|t| !in_range(n, t.monomial)) {
+        Some(i) => Err(JobFault::Exponent(i + 1)),
+        None => Ok(()),
     }
-    Ok(())
 }
 
 // Whether each term is less than the one before it.
 fn ask_falling<O: Order>(order: &O, terms: &[Term]) -> Result<(), JobFault>
     ensures { (line : ℕ) → Asked line (falling_ask (O.Order.meaning order.now) line (terms_of terms.now) ∷ []) result }
 {
-    for i in 1..terms.len() {
-        match order.compare(terms[i].monomial, terms[i - 1].monomial) {
-            Ordering::Less => {}
-            _ => return Err(JobFault::NotFalling(i + 1)),
-        }
+    let mut neighbours = terms.iter().zip(terms.iter().skip(1));
+    match neighbours.position(|(t, next)| order.compare(next.monomial, t.monomial)
+        != Ordering::Less)
+    {
+        Some(i) => Err(JobFault::NotFalling(i + 2)),
+        None => Ok(()),
     }
-    Ok(())
 }
 
 // The coefficient of the first term; 0 where there is none.

@@ -1,14 +1,12 @@
-use Rattle.order.specs.Monomials.{power_of, one, monomial}
-use Rattle.staircase.proofs.Searches.{any_hit, any_more, any_none}
+use Rattle.std.proofs.Common.{sym, ◌∙◌, rules, tests}
+use Rattle.std.proofs.lemmas.Iterator.{YieldsList-from_slice}
+use Rattle.std.proofs.lemmas.Iterator.Search.{any_from_yields_List}
+use Rattle.order.specs.Monomials.{power_of}
+use Rattle.staircase.proofs.Searches.{any_is_list_any}
 use Rattle.polynomials.proofs.leading.any_power.Goals as goal
 
-pub returns-then-is_power_of : goal.returns-then-is_power_of
-unfolding one monomial
-returns-then-is_power_of c = any_hit (power_of c.args.k) _ _ c.loop-l.invariant one c.loop-l-test.true c.if-is_power_of.ensures
-
-pub loop-l-preserved : goal.loop-l-preserved
-unfolding one monomial
-loop-l-preserved c = any_more (power_of c.args.k) _ _ c.loop-l.invariant one c.loop-l-test.true c.if-is_power_of.ensures
-
 pub returns : goal.returns
-returns c = any_none (power_of c.args.k) _ _ c.loop-l.invariant c.loop-l-test.false
+returns c =
+    let ls = c.args.leads.now in
+    any_from_yields_List (power_of c.args.k) _ _ c.any.result c.any.ensures.ran (YieldsList-from_slice ls cc) (λ x b q k. search (rules, tests))
+    ∙ sym (any_is_list_any (power_of c.args.k) ls)

@@ -1,34 +1,42 @@
-use Rattle.std.proofs.Common.{◌<◌, ◌≤◌, length, refl, arith, below_more}
-use Rattle.std.proofs.lemmas.Bool.{false≢true}
-use Rattle.order.specs.Monomials.{one, monomial}
-use Rattle.runs.specs.Job.{monomial_at}
+use Rattle.std.proofs.Common.{◌≡◌, ℕ, ◌+◌, ◌-◌, ◌<◌, ◌≤◌, Bool, true, false, Decides, MatchBool, List, length, get_or, drop, sym, ap, ◌∙◌, refl, subst, arith, rules, tests, length-drop}
+use mathlib.Core.Bool.{false≢true}
+use Rattle.std.specs.List.{AllWithin, HoldsAt}
+use Rattle.std.proofs.lemmas.List.{get_or-drop}
+use Rattle.std.proofs.lemmas.Iterator.{cases_from_all, YieldsList-from_slice}
+use Rattle.std.proofs.lemmas.Iterator.Adapters.{YieldsList-from_skip}
+use Rattle.order.specs.declared.monomial.Monomial.{Monomial}
+use Rattle.staircase.specs.declared.rules.Term.{Term}
 use Rattle.polynomials.specs.Held.{terms_of}
-use Rattle.polynomials.specs.Leads.{Stands}
-use Rattle.polynomials.proofs.Read.{at_monomial, of_monomial}
+use Rattle.polynomials.specs.Leads.{Stands, RestStands}
+use Rattle.polynomials.proofs.Read.{no_term, monomial_read}
 use Rattle.polynomials.proofs.Stored.{length_terms}
 use Rattle.polynomials.proofs.leading.rest_stands.Goals as goal
 
-pub loop-i-init : goal.loop-i-init
-loop-i-init c j l h = absurd (omega (arith, l, h))
+abbrev In : List Monomial → Term → Type 0
+In l t = Stands l t.monomial
 
-pub returns-in-None : goal.returns-in-None
-unfolding one monomial
-returns-in-None c =
-    let ts = c.args.terms.now in
-    let i = c.loop-i.i in
-    let l : i < length ts = c.loop-i-test.true in (
-      λ e. absurd (false≢true e),
-      λ y. let x = of_monomial ts i l (Stands c.args.stairs.now) (y i c.loop-i.auto.i (omega (arith, length_terms ts, l))) in absurd (c.in-None.ensures x.0 x.1 x.2),
-    )
+abbrev Out : List Monomial → Term → Type 0
+Out l t = In l t → ⊥
 
-pub loop-i-preserved : goal.loop-i-preserved
-unfolding one monomial
-loop-i-preserved c =
-    let ts = c.args.terms.now in
-    let i = c.loop-i.i in
-    let l : i < length ts = c.loop-i-test.true in
-    let x = c.in-Some.ensures in
-    below_more (λ j. 1 ≤ j → Stands c.args.stairs.now (monomial_at (terms_of ts) j)) i c.loop-i.invariant (λ _. at_monomial ts i l (Stands c.args.stairs.now) (_, x.0, x.1))
+-- the terms past the first, by their places
+past : (l : List Monomial) (ts : List Term) (r : Bool) → MatchBool r (AllWithin (In l) (drop 1 ts) 0 (length (drop 1 ts))) ((k : ℕ) × (k < length (drop 1 ts)) × HoldsAt (Out l) (drop 1 ts) k) → Decides r (RestStands l (terms_of ts))
+past l ts true h = (
+  λ e. λ i p q.
+      let k : i < length ts = omega (arith, q, length_terms ts) in
+      let at : get_or (drop 1 ts) (i - 1) no_term ≡ get_or ts i no_term = get_or-drop 1 ts (i - 1) no_term ∙ ap (λ (j : ℕ). get_or ts j no_term) (omega arith) in
+      subst (Stands l) (sym (monomial_read ts i k no_term)) (subst (In l) at (h (i - 1) no_term (omega arith) (omega (arith, length-drop 1 ts)))),
+  λ y. refl,
+)
+past l ts false h = (
+  λ e. absurd (false≢true e),
+  λ y.
+      let k : h.0 + 1 < length ts = omega (arith, h.1, length-drop 1 ts) in
+      let at : get_or (drop 1 ts) h.0 no_term ≡ get_or ts (h.0 + 1) no_term = get_or-drop 1 ts h.0 no_term ∙ ap (λ (j : ℕ). get_or ts j no_term) (omega arith) in
+      absurd (h.2 no_term (subst (In l) (sym at) (subst (Stands l) (monomial_read ts (h.0 + 1) k no_term) (y (h.0 + 1) (omega arith) (omega (arith, k, length_terms ts)))))),
+)
 
 pub returns : goal.returns
-returns c = (λ e j h l. c.loop-i.invariant j (omega (arith, length_terms c.args.terms.now, c.loop-i-test.false, l)) h, λ y. refl)
+returns c =
+    let l = c.args.stairs.now in
+    let ts = c.args.terms.now in
+    past l ts c.all.result (cases_from_all _ _ c.all.result (In l) (Out l) c.all.ensures.ran (YieldsList-from_skip 1 (YieldsList-from_slice ts cc) cc) (λ x q k. search (rules, tests)) (λ x q k. search (rules, tests)))

@@ -1,31 +1,17 @@
-use Rattle.std.proofs.Common.{T, length, sym, subst, arith, below_more}
-use Rattle.order.specs.Monomials.{one, monomial}
-use Rattle.runs.specs.Job.{coefficient_at}
-use Rattle.polynomials.specs.Held.{terms_of}
-use Rattle.polynomials.proofs.Answering.{each_yes, each_no}
-use Rattle.polynomials.proofs.Read.{at_coefficient, of_coefficient}
-use Rattle.polynomials.proofs.Stored.{length_terms}
+use Rattle.std.proofs.Common.{◌≡◌, ℕ, ◌<◌, T, length, get_or, rules, tests}
+use Rattle.polynomials.proofs.Read.{no_term, coefficients_yes, coefficients_no}
 use Rattle.polynomials.proofs.questions.ask_elements.Goals as goal
 
-pub returns-then-not-contains : goal.returns-then-not-contains
-unfolding one monomial
-returns-then-not-contains g c line =
+pub returns-in-Some : goal.returns-in-Some
+returns-in-Some g c line =
     let m = g.F.Field.meaning c.args.field.now in
-    let ts = c.args.terms.now in
-    each_no 9 line (length (terms_of ts)) (λ j. T (m.elem (coefficient_at (terms_of ts) j))) c.loop-i.i c.loop-i.invariant
-    (omega (arith, length_terms ts, c.loop-i-test.true))
-    (λ y. subst T (sym c.if-not-contains.ensures) (of_coefficient ts c.loop-i.i c.loop-i-test.true (λ w. T (m.elem w)) y))
+    let l : c.in-Some.i < length c.args.terms.now = search rules in
+    let here : T ((g.F.Field.meaning c.args.field.now).elem (get_or c.args.terms.now c.in-Some.i no_term).coefficient) → ⊥ = search (rules, tests) in
+    let before : (j : ℕ) → j < c.in-Some.i → T ((g.F.Field.meaning c.args.field.now).elem (get_or c.args.terms.now j no_term).coefficient) = search (rules, tests) in
+    coefficients_no 9 line c.args.terms.now (λ w. T (m.elem w)) c.in-Some.i l here before
 
-pub loop-i-preserved : goal.loop-i-preserved
-unfolding one monomial
-loop-i-preserved g c =
+pub returns-in-None : goal.returns-in-None
+returns-in-None g c line =
     let m = g.F.Field.meaning c.args.field.now in
-    let ts = c.args.terms.now in
-    below_more (λ j. T (m.elem (coefficient_at (terms_of ts) j))) c.loop-i.i c.loop-i.invariant
-    (at_coefficient ts c.loop-i.i c.loop-i-test.true (λ w. T (m.elem w)) (subst T c.if-not-contains.ensures tt))
-
-pub returns : goal.returns
-returns g c line =
-    let m = g.F.Field.meaning c.args.field.now in
-    let ts = c.args.terms.now in
-    each_yes 9 line (length (terms_of ts)) (λ j. T (m.elem (coefficient_at (terms_of ts) j))) c.loop-i.i c.loop-i.invariant (omega (arith, length_terms ts, c.loop-i-test.false))
+    let all : (j : ℕ) → j < length c.args.terms.now → T ((g.F.Field.meaning c.args.field.now).elem (get_or c.args.terms.now j no_term).coefficient) = search (rules, tests) in
+    coefficients_yes 9 line c.args.terms.now (λ w. T (m.elem w)) all

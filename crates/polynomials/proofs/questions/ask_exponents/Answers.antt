@@ -1,30 +1,23 @@
-use Rattle.std.proofs.Common.{length, refl, arith, below_more}
-use mathlib.Core.Bool.{false≢true}
-use Rattle.order.specs.Monomials.{one, monomial}
-use Rattle.runs.specs.Job.{monomial_at}
+use Rattle.std.proofs.Common.{ℕ, Some, None, length, arith, rules, tests}
+use Rattle.std.proofs.lemmas.Iterator.{IsFirst-from_position, YieldsList-from_slice}
+use Rattle.staircase.specs.declared.rules.Term.{Term}
 use Rattle.runs.specs.Enter.{InRange}
-use Rattle.polynomials.specs.Held.{terms_of}
-use Rattle.polynomials.proofs.Answering.{each_yes, each_no}
-use Rattle.polynomials.proofs.Read.{at_monomial, of_monomial}
-use Rattle.polynomials.proofs.Stored.{length_terms}
+use Rattle.polynomials.proofs.Read.{no_term, monomials_yes, monomials_no}
 use Rattle.polynomials.proofs.questions.ask_exponents.Goals as goal
 
-pub returns-then-not-in_range : goal.returns-then-not-in_range
-unfolding one monomial
-returns-then-not-in_range c line =
-    let ts = c.args.terms.now in
-    each_no 10 line (length (terms_of ts)) (λ j. InRange c.args.n (monomial_at (terms_of ts) j)) c.loop-i.i c.loop-i.invariant
-    (omega (arith, length_terms ts, c.loop-i-test.true))
-    (λ y. false≢true (c.if-not-in_range.ensures.1 (of_monomial ts c.loop-i.i c.loop-i-test.true (InRange c.args.n) y)))
+abbrev Fits : ℕ → Term → Type 0
+Fits n t = InRange n t.monomial
 
-pub loop-i-preserved : goal.loop-i-preserved
-unfolding one monomial
-loop-i-preserved c =
+pub returns-in-Some : goal.returns-in-Some
+returns-in-Some c line =
     let ts = c.args.terms.now in
-    below_more (λ j. InRange c.args.n (monomial_at (terms_of ts) j)) c.loop-i.i c.loop-i.invariant
-    (at_monomial ts c.loop-i.i c.loop-i-test.true (InRange c.args.n) (c.if-not-in_range.ensures.0 refl))
+    let n = c.args.n in
+    let first = IsFirst-from_position _ _ (Some c.in-Some.i) (λ t. Fits n t → ⊥) (Fits n) c.in-Some.ensures.ran (YieldsList-from_slice ts cc) (λ x q k. search (rules, tests)) (λ x q k. search (rules, tests)) in
+    monomials_no 10 line ts (InRange n) c.in-Some.i first.0 (first.1 no_term) (λ j l. first.2 j no_term (omega arith) l)
 
-pub returns : goal.returns
-returns c line =
+pub returns-in-None : goal.returns-in-None
+returns-in-None c line =
     let ts = c.args.terms.now in
-    each_yes 10 line (length (terms_of ts)) (λ j. InRange c.args.n (monomial_at (terms_of ts) j)) c.loop-i.i c.loop-i.invariant (omega (arith, length_terms ts, c.loop-i-test.false))
+    let n = c.args.n in
+    let all = IsFirst-from_position _ _ None (λ t. Fits n t → ⊥) (Fits n) c.in-None.ensures.ran (YieldsList-from_slice ts cc) (λ x q k. search (rules, tests)) (λ x q k. search (rules, tests)) in
+    monomials_yes 10 line ts (InRange n) (λ j l. all j no_term (omega arith) l)

@@ -1,32 +1,28 @@
-use Rattle.std.proofs.Common.{T, ◌≢◌, length, refl, arith, below_more}
-use mathlib.Core.Bool.{false≢true}
-use Rattle.order.specs.Monomials.{one, monomial}
-use Rattle.runs.specs.Job.{coefficient_at}
-use Rattle.polynomials.specs.Held.{terms_of}
-use Rattle.polynomials.proofs.Answering.{each_yes, each_no}
-use Rattle.polynomials.proofs.Read.{at_coefficient, of_coefficient}
-use Rattle.polynomials.proofs.Stored.{length_terms}
+use Rattle.std.proofs.Common.{◌≡◌, ◌≢◌, ℕ, ◌<◌, T, true, false, length, get_or, rules, tests, arith}
+use Rattle.std.proofs.lemmas.Bool.Decides.{nat_tests}
+use Rattle.field.specs.Meaning.{FieldMeaning, nonzero_element}
+use Rattle.polynomials.proofs.Read.{no_term, coefficients_yes, coefficients_no}
 use Rattle.polynomials.proofs.questions.ask_nonzero.Goals as goal
 
-pub returns-then-not-is_nonzero : goal.returns-then-not-is_nonzero
-unfolding one monomial
-returns-then-not-is_nonzero g c line =
-    let m = g.F.Field.meaning c.args.field.now in
-    let ts = c.args.terms.now in
-    each_no 9 line (length (terms_of ts)) (λ j. T (m.elem (coefficient_at (terms_of ts) j)) × (coefficient_at (terms_of ts) j ≢ m.zero)) c.loop-i.i c.loop-i.invariant
-    (omega (arith, length_terms ts, c.loop-i-test.true))
-    (λ y. false≢true (c.if-not-is_nonzero.ensures.1 (of_coefficient ts c.loop-i.i c.loop-i-test.true (λ w. T (m.elem w) × (w ≢ m.zero)) y)))
+abbrev Nonzero : FieldMeaning → ℕ → Type 0
+Nonzero m w = T (m.elem w) × (w ≢ m.zero)
 
-pub loop-i-preserved : goal.loop-i-preserved
-unfolding one monomial
-loop-i-preserved g c =
-    let m = g.F.Field.meaning c.args.field.now in
-    let ts = c.args.terms.now in
-    below_more (λ j. T (m.elem (coefficient_at (terms_of ts) j)) × (coefficient_at (terms_of ts) j ≢ m.zero)) c.loop-i.i c.loop-i.invariant
-    (at_coefficient ts c.loop-i.i c.loop-i-test.true (λ w. T (m.elem w) × (w ≢ m.zero)) (c.if-not-is_nonzero.ensures.0 refl))
+nonzero_yes : (m : FieldMeaning) (w : ℕ) → nonzero_element m w ≡ true → Nonzero m w
+nonzero_yes m w e = (grind (arith, nat_tests), grind (arith, nat_tests))
 
-pub returns : goal.returns
-returns g c line =
+nonzero_no : (m : FieldMeaning) (w : ℕ) → nonzero_element m w ≡ false → Nonzero m w → ⊥
+nonzero_no m w e y = grind (arith, nat_tests, y.0, y.1)
+
+pub returns-in-Some : goal.returns-in-Some
+returns-in-Some g c line =
     let m = g.F.Field.meaning c.args.field.now in
-    let ts = c.args.terms.now in
-    each_yes 9 line (length (terms_of ts)) (λ j. T (m.elem (coefficient_at (terms_of ts) j)) × (coefficient_at (terms_of ts) j ≢ m.zero)) c.loop-i.i c.loop-i.invariant (omega (arith, length_terms ts, c.loop-i-test.false))
+    let l : c.in-Some.i < length c.args.terms.now = search rules in
+    let here : nonzero_element (g.F.Field.meaning c.args.field.now) (get_or c.args.terms.now c.in-Some.i no_term).coefficient ≡ false = search rules in
+    let before : (j : ℕ) → j < c.in-Some.i → nonzero_element (g.F.Field.meaning c.args.field.now) (get_or c.args.terms.now j no_term).coefficient ≡ true = search rules in
+    coefficients_no 9 line c.args.terms.now (Nonzero m) c.in-Some.i l (nonzero_no m _ here) (λ j q. nonzero_yes m _ (before j q))
+
+pub returns-in-None : goal.returns-in-None
+returns-in-None g c line =
+    let m = g.F.Field.meaning c.args.field.now in
+    let all : (j : ℕ) → j < length c.args.terms.now → nonzero_element (g.F.Field.meaning c.args.field.now) (get_or c.args.terms.now j no_term).coefficient ≡ true = search rules in
+    coefficients_yes 9 line c.args.terms.now (Nonzero m) (λ j q. nonzero_yes m _ (all j q))

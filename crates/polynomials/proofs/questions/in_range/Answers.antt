@@ -1,21 +1,12 @@
-use Rattle.std.proofs.Common.{◌≡◌, ◌≤◌, refl, arith, below_more}
-use mathlib.Core.Bool.{false≢true}
+use Rattle.std.proofs.Common.{◌≡◌, ℕ, ◌≤◌, refl, rules, tests}
+use Rattle.std.proofs.lemmas.Iterator.{cases_from_all, YieldsList-from_range}
+use Rattle.order.specs.declared.monomial.Monomial.{Monomial}
 use Rattle.order.specs.Monomials.{exponent}
+use Rattle.polynomials.proofs.Answering.{range_all}
 use Rattle.polynomials.proofs.questions.in_range.Goals as goal
-use Rattle.polynomials.proofs.questions.in_range.Goals.{then-k-n, else-k-n}
 
-pub returns-then-exponent-most : goal.returns-then-exponent-most
-returns-then-exponent-most c = (
-  λ e. absurd (false≢true e),
-  λ y. let h = y c.loop-k.k c.loop-k-test.true in absurd (elim c.if-k-n.branch [ then-k-n w ↦ omega (arith, h.0, w.most-is, c.exponent.ensures, c.if-exponent-most.true) | else-k-n w ↦ omega (arith, h.1 w.if-k-n.false, w.most-is, c.exponent.ensures, c.if-exponent-most.true) ]),
-)
-
-pub loop-k-preserved : goal.loop-k-preserved
-loop-k-preserved c =
-    let m = c.args.m in
-    let n = c.args.n in
-    below_more (λ j. (exponent m j ≤ 48) × (n ≤ j → exponent m j ≡ 0)) c.loop-k.k c.loop-k.invariant
-    (elim c.if-k-n.branch [ then-k-n w ↦ (omega (arith, w.most-is, c.exponent.ensures, c.if-exponent-most.false), λ l. absurd (omega (arith, w.if-k-n.true, l))) | else-k-n w ↦ (omega (arith, w.most-is, c.exponent.ensures, c.if-exponent-most.false), λ l. omega (arith, w.most-is, c.exponent.ensures, c.if-exponent-most.false)) ])
+abbrev Allowed : ℕ → Monomial → ℕ → Type 0
+Allowed n m k = (exponent m k ≤ 48) × (n ≤ k → exponent m k ≡ 0)
 
 pub returns : goal.returns
-returns c = (λ e k l. c.loop-k.invariant k (omega (arith, c.loop-k-test.false, l)), λ y. refl)
+returns c = range_all 4 c.all.result (Allowed c.args.n c.args.m) (cases_from_all _ _ c.all.result (Allowed c.args.n c.args.m) (λ k. Allowed c.args.n c.args.m k → ⊥) c.all.ensures.ran (YieldsList-from_range 0 4 4 refl refl) (λ x q k. search (rules, tests)) (λ x q k. search (rules, tests)))
