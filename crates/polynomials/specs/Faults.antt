@@ -2,8 +2,10 @@
 --   number_of f     the number of the refusal
 --   layer_of f      the layer that refuses: 2, the job
 --   place_of f      the place that the refusal names, or 0
+--   text_of f       the text that the refusal prints: its number and its place
 -- Used by: every call of a job.
-use Rattle.std.specs.Prelude.{ℕ}
+use Rattle.std.specs.Prelude.{ℕ, List, ◌++◌, codes}
+use Rattle.std.specs.Fmt.{decimal}
 use Rattle.polynomials.specs.declared.fault.JobFault.{JobFault}
 use Rattle.polynomials.specs.declared.fault.JobFault.TheVariants.{Variables, NotOpen, ManyPolynomials, NoTerm, ManyTerms, Coefficient, Exponent, NotFalling, NotMonic, LedByOne, NoPower, Divided, ManyStairs, Outside, Disagree, NotClosed, NoVariable, VectorLength, VectorWord, ShortOutput, NoShape, DependentRows}
 
@@ -57,3 +59,6 @@ place_of (VectorWord p) = p
 place_of ShortOutput = 0
 place_of (NoShape p) = p
 place_of (DependentRows p) = p
+
+abbrev pub text_of : JobFault → List ℕ
+text_of f = decimal (number_of f) ++ codes " at " ++ decimal (place_of f)

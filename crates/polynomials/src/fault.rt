@@ -1,5 +1,11 @@
 // What a job refuses. Number, layer and place of each case are defined in specs/Faults.antt; a place
 // counts from 1.
+ghost use Rattle.std.specs.Prelude.{◌≡◌};
+ghost use Rattle.polynomials.specs.declared.fault.JobFault.TheVariants.{ManyStairs, NotClosed};
+
+use linear::step::Misfit;
+use staircase::TooMany;
+
 pub mod report;
 
 #[derive(Clone, Copy, PartialEq, Eq, Debug)]
@@ -39,4 +45,21 @@ pub enum JobFault {
     NoShape(usize),
     // the rows of the table depend: the least recurrence length
     DependentRows(usize),
+}
+
+// A step that does not fit is one over the tables of no closed job.
+impl From<Misfit> for JobFault {
+    ghost from_gives = { λ _ f. f ≡ NotClosed };
+
+    fn from(_misfit: Misfit) -> JobFault {
+        JobFault::NotClosed
+    }
+}
+
+impl From<TooMany> for JobFault {
+    ghost from_gives = { λ _ f. f ≡ ManyStairs };
+
+    fn from(_many: TooMany) -> JobFault {
+        JobFault::ManyStairs
+    }
 }

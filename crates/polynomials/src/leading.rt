@@ -1,5 +1,5 @@
 // The questions of Close about the leading monomials and the later terms of the polynomials held.
-// Only reads, but for the list that leading monomials are put into.
+// Only reads.
 ghost use Rattle.std.specs.Prelude.{◌≡◌, ℕ, ◌≤◌, false, T, ◌↔◌, List, [], ◌∷◌, map, length, take, drop, Decides, slice_index_or};
 ghost use Rattle.field.specs.Meaning.{FieldMeaning, FieldLaws};
 ghost use Rattle.order.specs.Monomials as def;
@@ -15,6 +15,7 @@ ghost use Rattle.polynomials.specs.Asked.{Asked};
 ghost use Rattle.polynomials.specs.Leads.{lead_of, leads_of, lead_asks, inside_ask, not_one_ask, powers_ask, Apart, apart_ask, Stands, RestStands};
 
 use crate::{JobFault, Polynomials};
+use arrayvec::ArrayVec;
 use order::Monomial;
 use staircase::Term;
 use staircase::search::place_of;
@@ -104,22 +105,15 @@ fn rest_stands(stairs: &[Monomial], terms: &[Term]) -> bool
 }
 
 impl Polynomials {
-    // The leading monomials, first to last, at the front of `out`: false, and nothing is written, where
-    // there is no room.
-    pub fn put_leads(&self, out: &mut [Monomial]) -> bool
-        ensures fits { T result ↔ (length (held self.now) ≤ length out.old) }
-        ensures refused_as_was { result ≡ false → out.new ≡ out.old }
-        ensures leads { T result → take (length (held self.now)) out.new ≡ leads_of (held self.now) }
-        ensures rest_unchanged { drop (length (held self.now)) out.new ≡ drop (length (held self.now)) out.old }
+    // The leading monomials, first to last.
+    pub fn leads(&self) -> ArrayVec<Monomial, 48>
+        ensures { result.items ≡ leads_of (held self.now) }
     {
-        let count = self.count();
-        if out.len() < count {
-            return false;
+        let mut leads = ArrayVec::new();
+        for i in 0..self.count() {
+            leads.push(first_monomial(self.polynomial(i)));
         }
-        for i in 0..count {
-            out[i] = first_monomial(self.polynomial(i));
-        }
-        true
+        leads
     }
 
     // Whether each later term of the polynomial at place `i` stands in the staircase.

@@ -1,8 +1,10 @@
-// What a fault of a job reports: number, layer and place.
-ghost use Rattle.std.specs.Prelude.{◌≡◌};
-ghost use Rattle.polynomials.specs.Faults.{number_of, layer_of, place_of};
+// What a fault of a job reports: number, layer and place, and the text that it prints.
+ghost use Rattle.std.specs.Prelude.{◌≡◌, Some};
+ghost use Rattle.polynomials.specs.Faults.{number_of, layer_of, place_of, text_of};
 
 use crate::JobFault;
+use std::error::Error;
+use std::fmt;
 
 const JOB_LAYER: u32 = 2;
 
@@ -60,3 +62,14 @@ impl JobFault {
         }
     }
 }
+
+impl fmt::Display for JobFault {
+    ghost output = { λ f. Some (text_of f) };
+
+    fn fmt<W: fmt::Write>(&self, f: &mut fmt::Formatter<W>) -> fmt::Result {
+        let (number, place) = (self.number(), self.place());
+        write!(f, "{number} at {place}")
+    }
+}
+
+impl Error for JobFault {}
