@@ -14,7 +14,7 @@ use linear::step::{Misfit, Place, step};
 use order::Monomial;
 
 // A word times a monomial.
-#[derive(Clone, Copy, PartialEq, Eq, Debug)]
+#[derive(Clone, Copy, PartialEq, Eq, Default, Debug)]
 pub struct Term {
     pub coefficient: u32,
     pub monomial: Monomial,

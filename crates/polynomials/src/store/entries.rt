@@ -1,21 +1,21 @@
 // Reading and adding polynomials.
-ghost use Rattle.std.specs.Prelude.{◌≡◌, ◌+◌, ◌<◌, ◌≤◌, false, T, ◌↔◌, [], ◌∷◌, ◌++◌, length, slice_index_or};
+ghost use Rattle.std.specs.Prelude.{◌≡◌, ◌+◌, ◌<◌, ◌≤◌, ◌↔◌, [], ◌∷◌, ◌++◌, length, slice_index, slice_index_or, IsOk, OnOk, OnErr};
 ghost use Rattle.polynomials.specs.Held.{entries, held, terms_of};
 ghost use Rattle.runs.specs.Job.{terms_held, most_polynomials, most_terms};
 
 use crate::Polynomials;
-use order::Monomial;
+use arrayvec::{ArrayVec, CapacityError};
 use staircase::Term;
 
-const NO_TERM: Term = Term {
-    coefficient: 0,
-    monomial: Monomial {
-        x1: 0,
-        x2: 0,
-        x3: 0,
-        x4: 0,
-    },
-};
+// There is no room for one more polynomial, or for its terms.
+#[derive(Clone, Copy, PartialEq, Eq, Debug)]
+pub struct NoRoom;
+
+impl From<CapacityError> for NoRoom {
+    fn from(_e: CapacityError) -> NoRoom {
+        NoRoom
+    }
+}
 
 impl Polynomials {
     // How many polynomials there is room for, and how many terms together.
@@ -28,57 +28,63 @@ impl Polynomials {
         ensures { held result ≡ [] }
     {
         Polynomials {
-            count: 0,
-            starts: [0; 49],
-            terms: [NO_TERM; 1024],
+            terms: ArrayVec::new(),
+            ends: ArrayVec::new(),
         }
     }
 
     pub fn count(&self) -> usize
         ensures { result ≡ length (held self.now) }
     {
-        self.count
+        self.ends.len()
     }
 
     // The terms of the polynomial at a place, counted from 0; none past the last.
     pub fn polynomial(&self, i: usize) -> &[Term]
         ensures { result.now ≡ slice_index_or (entries self.now) i [] }
     {
-        if i < self.count {
-            &self.terms[self.starts[i]..self.starts[i + 1]]
+        if i < self.ends.len() {
+            &self.terms[self.start(i)..self.ends[i]]
         } else {
-            &self.terms[0..0]
+            &self.terms[..0]
         }
+    }
+
+    // Where the terms of the polynomial at a place begin: at 0, or where the one before it ends.
+    fn start(&self, i: usize) -> usize
+        requires { i < length self.now.ends.items }
+        ensures { result ≡ slice_index (0 ∷ self.now.ends.items) i }
+    {
+        if i == 0 { 0 } else { self.ends[i - 1] }
     }
 
     // How many terms the polynomials have together.
     pub fn terms(&self) -> usize
         ensures { result ≡ terms_held (held self.now) }
     {
-        self.starts[self.count]
+        self.terms.len()
     }
 
-    // Puts a polynomial after the others: false where there is no room for it or for its terms.
-    pub fn push(&mut self, terms: &[Term]) -> bool
-        ensures answers { T result ↔ ((length (held self.old) < most_polynomials) × (terms_held (held self.old) + length terms.now ≤ most_terms)) }
-        ensures pushed { T result → held self.new ≡ held self.old ++ (terms_of terms.now ∷ []) }
-        ensures refused_as_was { result ≡ false → self.new ≡ self.old }
+    // Puts a polynomial after the others.
+    pub fn push(&mut self, terms: &[Term]) -> Result<(), NoRoom>
+        ensures answers { IsOk result ↔ ((length (held self.old) < most_polynomials) × (terms_held (held self.old) + length terms.now ≤ most_terms)) }
+        ensures pushed { OnOk result (held self.new ≡ held self.old ++ (terms_of terms.now ∷ [])) }
+        ensures refused_as_was { OnErr result (self.new ≡ self.old) }
     {
-        let start = self.starts[self.count];
-        if self.count == Self::MOST || terms.len() > Self::MOST_TERMS - start {
-            return false;
+        if self.ends.is_full() {
+            return Err(NoRoom);
         }
-        let end = start + terms.len();
-        self.terms[start..end].copy_from_slice(terms);
-        self.starts[self.count + 1] = end;
-        self.count += 1;
-        true
+        self.terms.try_extend_from_slice(terms)?;
+        let end = self.terms.len();
+        self.ends.push(end);
+        Ok(())
     }
 
     // Takes all polynomials out.
     pub fn clear(&mut self)
         ensures { held self.new ≡ [] }
     {
-        self.count = 0;
+        self.terms.clear();
+        self.ends.clear();
     }
 }

@@ -1,4 +1,4 @@
-use Rattle.std.proofs.Common.{◌≡◌, ℕ, ◌<◌, length, get_or, rules, arith}
+use Rattle.std.proofs.Common.{ℕ, ◌<◌, length, get_or, rules, arith}
 use Rattle.order.specs.Monomials.{one}
 use Rattle.polynomials.specs.Leads.{Apart}
 use Rattle.polynomials.proofs.Answering.{each_yes, each_no}

@@ -1,4 +1,4 @@
-use Rattle.std.proofs.Common.{◌≡◌, ℕ, ◌+◌, ◌-◌, ◌<◌, ◌≤◌, Bool, true, false, Decides, MatchBool, List, length, get_or, drop, sym, ap, ◌∙◌, refl, subst, arith, rules, tests, length-drop}
+use Rattle.std.proofs.Common.{◌≡◌, ℕ, ◌+◌, ◌-◌, ◌<◌, Bool, true, false, Decides, MatchBool, List, length, get_or, drop, sym, ap, ◌∙◌, refl, subst, arith, rules, tests, length-drop}
 use mathlib.Core.Bool.{false≢true}
 use Rattle.std.specs.List.{AllWithin, HoldsAt}
 use Rattle.std.proofs.lemmas.List.{get_or-drop}

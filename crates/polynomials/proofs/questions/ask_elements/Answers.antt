@@ -1,4 +1,4 @@
-use Rattle.std.proofs.Common.{◌≡◌, ℕ, ◌<◌, T, length, get_or, rules, tests}
+use Rattle.std.proofs.Common.{ℕ, ◌<◌, T, length, get_or, rules, tests}
 use Rattle.polynomials.proofs.Read.{no_term, coefficients_yes, coefficients_no}
 use Rattle.polynomials.proofs.questions.ask_elements.Goals as goal
 

@@ -1,4 +1,4 @@
-use Rattle.std.proofs.Common.{ℕ, Some, None, length, arith, rules, tests}
+use Rattle.std.proofs.Common.{ℕ, Some, None, arith, rules, tests}
 use Rattle.std.proofs.lemmas.Iterator.{IsFirst-from_position, YieldsList-from_slice}
 use Rattle.staircase.specs.declared.rules.Term.{Term}
 use Rattle.runs.specs.Enter.{InRange}

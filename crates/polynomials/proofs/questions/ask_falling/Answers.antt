@@ -1,4 +1,4 @@
-use Rattle.std.proofs.Common.{ℕ, suc, ◌+◌, List, [], ◌∷◌, length, Some, None, subst, arith, rules, tests}
+use Rattle.std.proofs.Common.{suc, ◌+◌, List, [], ◌∷◌, length, Some, None, subst, arith, rules, tests}
 use Rattle.std.proofs.lemmas.Iterator.{IsFirst-from_position, YieldsList-from_slice, YieldsList-from_zip}
 use Rattle.std.proofs.lemmas.Iterator.Adapters.{YieldsList-from_skip}
 use Rattle.order.specs.Laws.{Comparison}

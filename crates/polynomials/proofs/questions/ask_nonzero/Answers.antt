@@ -1,4 +1,4 @@
-use Rattle.std.proofs.Common.{◌≡◌, ◌≢◌, ℕ, ◌<◌, T, true, false, length, get_or, rules, tests, arith}
+use Rattle.std.proofs.Common.{◌≡◌, ◌≢◌, ℕ, ◌<◌, T, true, false, length, get_or, rules, arith}
 use Rattle.std.proofs.lemmas.Bool.Decides.{nat_tests}
 use Rattle.field.specs.Meaning.{FieldMeaning, nonzero_element}
 use Rattle.polynomials.proofs.Read.{no_term, coefficients_yes, coefficients_no}

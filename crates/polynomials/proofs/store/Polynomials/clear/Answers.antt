@@ -1,7 +1,5 @@
-use Rattle.std.proofs.Common.{refl}
-use Rattle.polynomials.specs.Held.{entries}
+use Rattle.polynomials.proofs.Stored.{held_none}
 use Rattle.polynomials.proofs.store.Polynomials.clear.Goals as goal
 
 pub returns : goal.returns
-unfolding entries
-returns c = refl
+returns c = held_none _ c.clear-2.ensures

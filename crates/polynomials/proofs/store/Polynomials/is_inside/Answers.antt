@@ -1,4 +1,4 @@
-use Rattle.std.proofs.Common.{[], get_or, Decides, List, sym, subst}
+use Rattle.std.proofs.Common.{Decides, List, subst}
 use Rattle.runs.specs.Job.{Term}
 use Rattle.polynomials.specs.Held.{entries}
 use Rattle.polynomials.specs.Leads.{RestStands}
