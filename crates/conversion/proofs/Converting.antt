@@ -155,20 +155,20 @@ module _ (m : FieldMeaning) (laws : FieldLaws m) (cmp : Comparison) (O : OrderLa
 
   -- of a call, which counts its variables from 1, for words as many as the tables say
 
-  module _ (k : ℕ) (r : List ℕ) (room d' : ℕ) (size : d' ≡ t.size) where
-    pub refused_first : (f : JobFault) → Refused (vector_words_asks m d' n k r room) (number_of f) 0 (place_of f) → Refused (vector_asks m laws cmp n ps k r room) (number_of f) 0 (place_of f)
+  module _ (k : ℕ) (r : List ℕ) (room : ℕ) where
+    pub refused_first : (f : JobFault) → Refused (vector_words_asks m t.size n k r room) (number_of f) 0 (place_of f) → Refused (vector_asks m laws cmp n ps k r room) (number_of f) 0 (place_of f)
     refused_first f x =
         refused_more (vector_words_asks m d n k r room) (shape_ask m laws cmp n ps k ∷ table_ask m laws cmp n ps k r ∷ []) (number_of f) 0 (place_of f)
-        (subst (λ (y : ℕ). Refused (vector_words_asks m y n k r room) (number_of f) 0 (place_of f)) (size ∙ H.size) x)
+        (subst (λ (y : ℕ). Refused (vector_words_asks m y n k r room) (number_of f) 0 (place_of f)) H.size x)
 
-    module _ (Y : AllYes (vector_words_asks m d' n k r room)) where
+    module _ (Y : AllYes (vector_words_asks m t.size n k r room)) where
       before : pred k ≡ k - 1
       before = omega (arith, Y.0.0)
 
       first-yes : AllYes (vector_words_asks m d n k r room)
-      first-yes = subst (λ (y : ℕ). AllYes (vector_words_asks m y n k r room)) (size ∙ H.size) Y
+      first-yes = subst (λ (y : ℕ). AllYes (vector_words_asks m y n k r room)) H.size Y
 
-      pub in_range : k - 1 < n
+      in_range : k - 1 < n
       in_range = omega (arith, Y.0.0, Y.0.1)
 
       pub refused-shape : (f : JobFault) → HasNoShape m laws t.size (power m laws t (k - 1) (unit m laws)) f → Refused (vector_asks m laws cmp n ps k r room) (number_of f) 0 (place_of f)
@@ -202,7 +202,7 @@ module _ (m : FieldMeaning) (laws : FieldLaws m) (cmp : Comparison) (O : OrderLa
           pub converted : (out : List ℕ) → length out ≡ room → {A : Type 0} (a : Result A JobFault) → RowsWritten m laws t (k - 1) r n c out a → Converted m laws cmp n ps k r room (take (n * t.size) out) a
           converted out long (Ok a) R =
               let y = first-yes in
-              let fits : n * t.size ≤ length out = subst (λ (x : ℕ). n * x ≤ length out) size (subst (λ (x : ℕ). n * d' ≤ x) (sym long) Y.1.1.1.0) in
+              let fits : n * t.size ≤ length out = subst (λ (x : ℕ). n * t.size ≤ x) (sym long) Y.1.1.1.0 in
               let counted : suc (k - 1) ≡ k = omega (arith, Y.0.0) in (
                 (y.0, (y.1.0, (y.1.1.0, (y.1.1.1.0, (shape-there, (subst (λ (i : ℕ). FreeTable m laws cmp n ps i r) (sym before) free-table, tt)))))),
                 subst (λ (i : ℕ). Written m laws cmp n ps i r (take (n * t.size) out)) counted (written (k - 1) in_range r c out fits W.1 R),

@@ -1,7 +1,6 @@
 -- Monomials and polynomials at linear maps: one variable after the other, one term after the other, and over maps that agree.
-use Rattle.std.proofs.Common.{◌≡◌, ℕ, zero, suc, ◌+◌, ◌-◌, ◌<◌, ◌≤◌, List, length, get_or, drop, sym, refl, ap, ◌∙◌, ap₂, arith}
+use Rattle.std.proofs.Common.{◌≡◌, ℕ, zero, suc, ◌<◌, ◌≤◌, List, [], ◌∷◌, ◌++◌, length, get_or, sym, refl, ap, ◌∙◌, ap₂, arith}
 use mathlib.Core.Path.{fun_ext}
-use Rattle.std.proofs.lemmas.List.{at_drop_more, at_drop_all}
 use Rattle.field.specs.Meaning.{FieldMeaning, FieldLaws, FieldTotal}
 use Rattle.algebra.specs.Field.{Field}
 use Rattle.algebra.specs.Vector.{krylov}
@@ -60,14 +59,9 @@ module _ (m : FieldMeaning) (laws : FieldLaws m) where
       ∙ ap₂ m.add (S j h)
       (ap (m.mul w) (G j h) ∙ mul_el m laws total w (f j).0 ∙ ap (λ (x : Elem m). m.mul (el m laws w).0 x.0) (el_elem m laws (f j)))
 
-  module _ (t : Tables) (n : ℕ) (terms : List Term) (d : Term) (i : ℕ) where
-    -- one term more, from the end on
-    pub value_more : 0 < i → i ≤ length terms → (j : ℕ) → value_of m laws t n (drop (i - 1) terms) j ≡ (field_of m laws).◌⊕◌ (value_of m laws t n (drop i terms) j) ((field_of m laws).◌⊗◌ (el m laws (get_or terms (i - 1) d).coefficient) (acts m laws t n (get_or terms (i - 1) d).monomial (unit m laws) j))
-    value_more pos l j =
-        let next : i - 1 + 1 ≡ i = omega arith in
-        at_drop_more (λ (xs : List Term). value_of m laws t n xs j) terms (i - 1) d (omega arith)
-        ∙ (field_of m laws).add_comm _ _
-        ∙ ap (λ (k : ℕ). (field_of m laws).◌⊕◌ (value_of m laws t n (drop k terms) j) ((field_of m laws).◌⊗◌ (el m laws (get_or terms (i - 1) d).coefficient) (acts m laws t n (get_or terms (i - 1) d).monomial (unit m laws) j))) next
-
-    pub value_none : length terms ≤ i → (j : ℕ) → value_of m laws t n (drop i terms) j ≡ (field_of m laws).zer
-    value_none l j = at_drop_all (λ (xs : List Term). value_of m laws t n xs j) terms i l
+  -- one term more, at the end
+  pub value_more : (t : Tables) (n j : ℕ) (terms : List Term) (term : Term) → value_of m laws t n (terms ++ term ∷ []) j ≡ (field_of m laws).◌⊕◌ (value_of m laws t n terms j) ((field_of m laws).◌⊗◌ (el m laws term.coefficient) (acts m laws t n term.monomial (unit m laws) j))
+  value_more t n j [] term = (field_of m laws).add_comm _ _
+  value_more t n j (x ∷ terms) term =
+      ap ((field_of m laws).◌⊕◌ ((field_of m laws).◌⊗◌ (el m laws x.coefficient) (acts m laws t n x.monomial (unit m laws) j))) (value_more t n j terms term)
+      ∙ sym ((field_of m laws).add_assoc _ _ _)

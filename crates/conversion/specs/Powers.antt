@@ -6,16 +6,14 @@
 --   unit m laws                 the unit vector of place 0, that of the monomial 1
 --   power m laws t k f j        that matrix put to the vector f j times
 --   measure m laws t k r f j    the sum of r_i times coordinate i of that power
---   CanStep t k a              the answer a is yes where the tables are ready for x_k
 --   Vectors m laws t k vectors  the words hold the powers of x_k at the unit vector, each a width after the one before, and are all elements
 -- Used by: the loops over Krylov vectors, sequences and right-hand sides.
-use Rattle.std.specs.Prelude.{◌≡◌, ℕ, ◌+◌, ◌*◌, ◌<◌, ◌≤◌, Bool, T, List, slice_index}
+use Rattle.std.specs.Prelude.{◌≡◌, ℕ, ◌+◌, ◌*◌, ◌<◌, List, slice_index}
 use Rattle.field.specs.Meaning.{FieldMeaning, FieldLaws}
-use Rattle.order.specs.Monomials.{variables}
 use Rattle.algebra.specs.Vector.{basis, apply, krylov}
 use Rattle.algebra.specs.Elements.{Elem, Elems, field_of, read}
 use Rattle.linear.specs.Hankel.{measured}
-use Rattle.tables.specs.Holds.{entry_of, Ready}
+use Rattle.tables.specs.Holds.{entry_of}
 use Rattle.tables.specs.declared.tables.Tables.{Tables}
 
 abbrev pub width : ℕ
@@ -26,9 +24,6 @@ StandsAt m d a xs f = (j : ℕ) → j < d → slice_index xs (a + j) ≡ (f j).0
 
 abbrev pub Stands : (m : FieldMeaning) → ℕ → List ℕ → (ℕ → Elem m) → Type 0
 Stands m d xs f = (j : ℕ) → j < d → slice_index xs j ≡ (f j).0
-
-abbrev pub CanStep : Tables → ℕ → Bool → Type 0
-CanStep t k a = (n : ℕ) → n ≤ variables → k < n → Ready t n → T a
 
 module _ (m : FieldMeaning) (laws : FieldLaws m) where
   abbrev pub unit : ℕ → Elem m

@@ -1,6 +1,6 @@
 // Convert of a closed job: the questions from 20 on, then the rows. All that can be refused is done
 // before the first word of the output is written.
-ghost use Rattle.std.specs.Prelude.{◌≡◌, ◌*◌, List, length, take, drop, Ok, Err};
+ghost use Rattle.std.specs.Prelude.{◌≡◌, ◌*◌, List, OnErr, length, take, drop};
 ghost use Rattle.field.specs.Meaning.{FieldLaws};
 ghost use Rattle.order.specs.Laws.{Comparison, OrderLaws};
 ghost use Rattle.runs.specs.Job.{Term};
@@ -8,6 +8,7 @@ ghost use Rattle.runs.specs.Sound.{Sound};
 ghost use Rattle.tables.specs.Holds.{Holds};
 ghost use Rattle.conversion.specs.Answer.{closed_job, Converted};
 
+use crate::powers::{Conversion, Matrices};
 use crate::questions::ask_vector;
 use crate::work::Work;
 use field::Field;
@@ -25,16 +26,22 @@ pub fn convert<F: Field>(
     r: &[u32],
     out: &mut [u32],
 ) -> Result<(), JobFault>
-    ensures refused_as_was { elim result [ Ok _ ↦ Unit {0} | Err _ ↦ out.new ≡ out.old ] }
+    ensures refused_as_was { OnErr result (out.new ≡ out.old) }
     ensures rest_unchanged { drop (n * tables.now.size) out.new ≡ drop (n * tables.now.size) out.old }
     ensures answered { (laws : FieldLaws (F.Field.meaning field.now)) (cmp : Comparison) (ps : List (List Term)) → OrderLaws cmp → Sound (F.Field.meaning field.now) laws cmp (closed_job n ps) → Holds (F.Field.meaning field.now) laws cmp n ps tables.now → Converted (F.Field.meaning field.now) laws cmp n ps k r.now (length out.old) (take (n * tables.now.size) out.new) result }
 {
     if n > Monomial::VARIABLES {
         return Err(JobFault::Variables);
     }
-    ask_vector(field, tables.size(), n, k, r, out.len())?;
+    let matrices = Matrices { field, tables, n };
+    ask_vector(&matrices, k, r, out.len())?;
+    let conversion = Conversion {
+        matrices,
+        k: k - 1,
+        r,
+    };
     let mut work = Work::new();
-    work.ask_shape(field, tables, k - 1, r)?;
-    work.ask_rows(field, tables, k - 1, r)?;
-    work.write(field, tables, n, k - 1, r, out)
+    work.ask_shape(&conversion)?;
+    work.ask_rows(&conversion)?;
+    work.write(&conversion, out)
 }

@@ -1,100 +1,130 @@
 // Powers of a multiplication matrix: a vector that is put through the step of the tables again and
-// again. A vector is lent WIDTH words, of which as many count as the staircase has monomials; a false
-// says that the tables have no such step.
-ghost use Rattle.std.specs.Prelude.{◌≡◌, ℕ, ◌*◌, ◌≤◌, T, length};
+// again. Of its WIDTH words as many count as the staircase has monomials.
+ghost use Rattle.std.specs.Prelude.{◌≡◌, ℕ, ◌<◌, ◌≤◌, OnOk, OnErr, length};
 ghost use Rattle.field.specs.Meaning.{FieldLaws};
+ghost use Rattle.order.specs.Monomials.{variables};
 ghost use Rattle.algebra.specs.Elements.{Elem};
-ghost use Rattle.conversion.specs.Powers.{width, Stands, CanStep, map_of, unit, power, measure, Vectors};
+ghost use Rattle.polynomials.specs.declared.fault.JobFault.TheVariants.{NotClosed};
+ghost use Rattle.tables.specs.Holds.{Ready};
+ghost use Rattle.conversion.specs.Powers.{width, Stands, map_of, unit, power, measure, Vectors};
 
 use field::Field;
 use linear::dot::dot;
+use polynomials::JobFault;
 use tables::Tables;
 
 // How many words a vector is lent.
 pub(crate) const WIDTH: usize = 48;
 
-// The unit vector of place 0.
-pub(crate) fn put_unit<F: Field>(field: &F, vector: &mut [u32])
-    ensures { (laws : FieldLaws (F.Field.meaning field.now)) → Stands (F.Field.meaning field.now) (length vector.old) vector.new (unit (F.Field.meaning field.now) laws) }
-{
-    for j in 0..vector.len() {
-        vector[j] = if j == 0 { field.one() } else { field.zero() };
+// The tables have no such step, so they are none of a closed job.
+#[derive(Clone, Copy, PartialEq, Eq, Debug)]
+pub(crate) struct Misfit;
+
+impl From<Misfit> for JobFault {
+    ghost from_gives = { λ _ f. f ≡ NotClosed };
+
+    fn from(_misfit: Misfit) -> JobFault {
+        JobFault::NotClosed
     }
 }
 
-// Puts the matrix of x_k, counted from 0, to the vector; `next` is room to work in.
-pub(crate) fn advance<F: Field>(
-    field: &F,
-    tables: &Tables,
-    k: usize,
-    vector: &mut [u32],
-    next: &mut [u32],
-) -> bool
-    requires room { (length vector.old ≡ width) × (length next.old ≡ width) }
-    ensures can { CanStep tables.now k result }
-    ensures advanced { T result → (laws : FieldLaws (F.Field.meaning field.now)) (f : ℕ → Elem (F.Field.meaning field.now)) → Stands (F.Field.meaning field.now) tables.now.size vector.old f → Stands (F.Field.meaning field.now) tables.now.size vector.new (map_of (F.Field.meaning field.now) laws tables.now k f) }
-{
-    if !tables.step(field, k, vector, next) {
-        return false;
-    }
-    vector.copy_from_slice(next);
-    true
+// A vector, and room for the next one.
+#[derive(Drop)]
+pub(crate) struct Walk {
+    pub(crate) vector: [u32; 48],
+    next: [u32; 48],
 }
 
-// The words r . v, r . T v, r . T (T v), .. for the matrix T of x_k and the vector v, into all of
-// `out`.
-pub(crate) fn measure<F: Field>(
-    field: &F,
-    tables: &Tables,
-    k: usize,
-    r: &[u32],
-    vector: &mut [u32],
-    next: &mut [u32],
-    out: &mut [u32],
-) -> bool
-    requires room { (length vector.old ≡ width) × (length next.old ≡ width) }
-    requires exact { length r.now ≡ tables.now.size }
-    ensures can { CanStep tables.now k result }
-    ensures measured { T result → (laws : FieldLaws (F.Field.meaning field.now)) (f : ℕ → Elem (F.Field.meaning field.now)) → Stands (F.Field.meaning field.now) tables.now.size vector.old f → Stands (F.Field.meaning field.now) (length out.old) out.new (measure (F.Field.meaning field.now) laws tables.now k r.now f) }
-{
-    for j in 0..out.len() {
-        out[j] = dot(field, r, vector);
-        if !advance(field, tables, k, vector, next) {
-            return false;
+impl Walk {
+    pub(crate) fn new() -> Walk {
+        Walk {
+            vector: [0; 48],
+            next: [0; 48],
         }
     }
-    true
+
+    // Puts the unit vector of place 0 in the place of the vector.
+    pub(crate) fn start<F: Field>(&mut self, field: &F)
+        ensures { let m = F.Field.meaning field.now in (laws : FieldLaws m) → Stands m width self.new.vector (unit m laws) }
+    {
+        self.vector.fill(field.zero());
+        self.vector[0] = field.one();
+    }
 }
 
-// The powers of the matrix of x_k at the unit vector, as many as there are places, each WIDTH words
-// after the one before, and their products with r; the vector is left at the power after them.
-pub(crate) fn krylov<F: Field>(
-    field: &F,
-    tables: &Tables,
-    k: usize,
-    r: &[u32],
-    vector: &mut [u32],
-    next: &mut [u32],
-    vectors: &mut [u32],
-    words: &mut [u32],
-) -> bool
-    requires room { (length vector.old ≡ width) × (length next.old ≡ width) }
-    requires all { (length vectors.old ≡ width * width) × (width ≤ length words.old) }
-    requires exact { length r.now ≡ tables.now.size }
-    ensures can { CanStep tables.now k result }
-    ensures vectors { T result → (laws : FieldLaws (F.Field.meaning field.now)) → Vectors (F.Field.meaning field.now) laws tables.now k vectors.new }
-    ensures words { T result → (laws : FieldLaws (F.Field.meaning field.now)) → Stands (F.Field.meaning field.now) tables.now.size words.new (measure (F.Field.meaning field.now) laws tables.now k r.now (unit (F.Field.meaning field.now) laws)) }
-    ensures next { T result → (laws : FieldLaws (F.Field.meaning field.now)) → Stands (F.Field.meaning field.now) tables.now.size vector.new (power (F.Field.meaning field.now) laws tables.now k (unit (F.Field.meaning field.now) laws) tables.now.size) }
-{
-    let d = tables.size();
-    put_unit(field, vector);
-    vectors.fill(field.zero());
-    for j in 0..d {
-        vectors[j * WIDTH..j * WIDTH + d].copy_from_slice(&vector[0..d]);
-        words[j] = dot(field, r, vector);
-        if !advance(field, tables, k, vector, next) {
-            return false;
+// The multiplication matrices of the first `n` variables.
+#[derive(Drop)]
+pub(crate) struct Matrices<'a, F> {
+    pub(crate) field: &'a F,
+    pub(crate) tables: &'a Tables,
+    pub(crate) n: usize,
+    ghost few: { n ≤ variables },
+}
+
+impl<'a, F: Field> Matrices<'a, F> {
+    // Puts the matrix of x_k, counted from 0, to the vector.
+    pub(crate) fn advance(&self, k: usize, walk: &mut Walk) -> Result<(), Misfit>
+        requires { k < self.now.n }
+        ensures fits { OnErr result (¬ Ready self.now.tables.now self.now.n) }
+        ensures advanced { let m = F.Field.meaning self.now.field.now in let t = self.now.tables.now in OnOk result ((laws : FieldLaws m) (f : ℕ → Elem m) → Stands m t.size walk.old.vector f → Stands m t.size walk.new.vector (map_of m laws t k f)) }
+    {
+        if !self
+            .tables
+            .step(self.field, k, &walk.vector, &mut walk.next)
+        {
+            return Err(Misfit);
         }
+        walk.vector = walk.next;
+        Ok(())
     }
-    true
+}
+
+// A conversion in x_k, counted from 0, that measures vectors by r.
+#[derive(Drop)]
+pub(crate) struct Conversion<'a, F> {
+    pub(crate) matrices: Matrices<'a, F>,
+    pub(crate) k: usize,
+    pub(crate) r: &'a [u32],
+    ghost within: { k < matrices.n },
+    ghost exact: { length r.now ≡ matrices.tables.now.size },
+}
+
+impl<'a, F: Field> Conversion<'a, F> {
+    // The words r . v, r . T v, r . T (T v), .. for the matrix T of x_k and the vector v, into all of
+    // `out`.
+    pub(crate) fn measure(&self, walk: &mut Walk, out: &mut [u32]) -> Result<(), Misfit>
+        ensures fits { OnErr result (¬ Ready self.now.matrices.tables.now self.now.matrices.n) }
+        ensures measured { let m = F.Field.meaning self.now.matrices.field.now in let t = self.now.matrices.tables.now in OnOk result ((laws : FieldLaws m) (f : ℕ → Elem m) → Stands m t.size walk.old.vector f → Stands m (length out.old) out.new (measure m laws t self.now.k self.now.r.now f)) }
+    {
+        for j in 0..out.len() {
+            out[j] = dot(self.matrices.field, self.r, &walk.vector);
+            self.matrices.advance(self.k, walk)?;
+        }
+        Ok(())
+    }
+
+    // The powers of the matrix of x_k at the unit vector, as many as there are places, each WIDTH
+    // words after the one before, and their products with r; the vector is left at the power after
+    // them.
+    pub(crate) fn krylov(
+        &self,
+        walk: &mut Walk,
+        vectors: &mut [u32; 2304],
+        words: &mut [u32; 96],
+    ) -> Result<(), Misfit>
+        ensures fits { OnErr result (¬ Ready self.now.matrices.tables.now self.now.matrices.n) }
+        ensures vectors { let m = F.Field.meaning self.now.matrices.field.now in OnOk result ((laws : FieldLaws m) → Vectors m laws self.now.matrices.tables.now self.now.k vectors.new) }
+        ensures words { let m = F.Field.meaning self.now.matrices.field.now in let t = self.now.matrices.tables.now in OnOk result ((laws : FieldLaws m) → Stands m t.size words.new (measure m laws t self.now.k self.now.r.now (unit m laws))) }
+        ensures next { let m = F.Field.meaning self.now.matrices.field.now in let t = self.now.matrices.tables.now in OnOk result ((laws : FieldLaws m) → Stands m t.size walk.new.vector (power m laws t self.now.k (unit m laws) t.size)) }
+    {
+        let d = self.matrices.tables.size();
+        walk.start(self.matrices.field);
+        vectors.fill(self.matrices.field.zero());
+        for j in 0..d {
+            vectors[j * WIDTH..j * WIDTH + d].copy_from_slice(&walk.vector[0..d]);
+            words[j] = dot(self.matrices.field, self.r, &walk.vector);
+            self.matrices.advance(self.k, walk)?;
+        }
+        Ok(())
+    }
 }

@@ -1,15 +1,13 @@
 // The questions 20 to 25 of Convert, in their order. The last two are put to words that the powers
 // of a multiplication matrix have left, and work in what they are lent.
-ghost use Rattle.std.specs.Prelude.{◌≡◌, ℕ, suc, ◌+◌, ◌*◌, ◌<◌, ◌≤◌, T, length, Some, None, slice_index};
+ghost use Rattle.std.specs.Prelude.{◌≡◌, ℕ, suc, ◌+◌, ◌<◌, T, length, Some, None, slice_index};
 ghost use Rattle.field.specs.Meaning.{FieldLaws};
-ghost use Rattle.order.specs.Monomials.{variables};
-ghost use Rattle.algebra.specs.Elements.{Elem, Elems};
-ghost use Rattle.linear.specs.Elimination as elimination;
+ghost use Rattle.algebra.specs.Elements.{Elem};
 ghost use Rattle.polynomials.specs.Asked.{Asked};
-ghost use Rattle.conversion.specs.Powers.{width, Stands};
+ghost use Rattle.conversion.specs.Powers.{Stands, unit, power, Vectors};
 ghost use Rattle.conversion.specs.Asked.{vector_words_asks, ShapeFound, LengthFound};
 
-use crate::powers::WIDTH;
+use crate::powers::{Conversion, Matrices, WIDTH};
 use field::Field;
 use linear::elimination::{Dependence, Family, eliminate};
 use linear::recurrence::recurrence_length;
@@ -19,39 +17,30 @@ use polynomials::JobFault;
 fn first_no_element<F: Field>(field: &F, words: &[u32]) -> Option<usize>
     ensures { elim result [ Some p ↦ ((i : ℕ) × (i < length words.now) × (p ≡ suc i) × (T ((F.Field.meaning field.now).elem (slice_index words.now i)) → ⊥) × ((j : ℕ) → j < i → T ((F.Field.meaning field.now).elem (slice_index words.now j)))) | None ↦ ((i : ℕ) → i < length words.now → T ((F.Field.meaning field.now).elem (slice_index words.now i))) ] }
 {
-    for i in 0..words.len() {
-        if !field.contains(words[i]) {
-            return Some(i + 1);
-        }
-    }
-    None
+    let i = words.iter().position(|w| !field.contains(*w))?;
+    Some(i + 1)
 }
 
 // 20 to 23, of a variable counted from 1.
 pub(crate) fn ask_vector<F: Field>(
-    field: &F,
-    d: usize,
-    n: usize,
+    matrices: &Matrices<F>,
     k: usize,
     r: &[u32],
     room: usize,
 ) -> Result<(), JobFault>
-    requires few { (d ≤ width) × (n ≤ variables) }
-    ensures { Asked 0 (vector_words_asks (F.Field.meaning field.now) d n k r.now room) result }
+    ensures { Asked 0 (vector_words_asks (F.Field.meaning matrices.now.field.now) matrices.now.tables.now.size matrices.now.n k r.now room) result }
 {
-    if k == 0 {
-        return Err(JobFault::NoVariable);
-    }
-    if k > n {
+    let d = matrices.tables.size();
+    if !(1..=matrices.n).contains(&k) {
         return Err(JobFault::NoVariable);
     }
     if r.len() != d {
         return Err(JobFault::VectorLength);
     }
-    if let Some(place) = first_no_element(field, r) {
+    if let Some(place) = first_no_element(matrices.field, r) {
         return Err(JobFault::VectorWord(place));
     }
-    if room < n * d {
+    if room < matrices.n * d {
         return Err(JobFault::ShortOutput);
     }
     Ok(())
@@ -59,56 +48,46 @@ pub(crate) fn ask_vector<F: Field>(
 
 // 24: whether the powers are independent; its place is the first that depends on those before it.
 pub(crate) fn ask_independent<F: Field>(
-    field: &F,
-    d: usize,
-    vectors: &[u32],
-    table: &mut [u32],
-    pivots: &mut [usize],
-    row: &mut [u32],
+    by: &Conversion<F>,
+    vectors: &[u32; 2304],
+    table: &mut [u32; 4608],
+    pivots: &mut [usize; 48],
+    row: &mut [u32; 96],
 ) -> Result<(), JobFault>
-    requires few { d ≤ width }
-    requires all { length vectors.now ≡ width * width }
-    requires table { length table.old ≡ width * elimination.pitch }
-    requires pivots { length pivots.old ≡ width }
-    requires row { length row.old ≡ elimination.pitch }
-    ensures { (laws : FieldLaws (F.Field.meaning field.now)) → Elems (F.Field.meaning field.now) vectors.now → ShapeFound (F.Field.meaning field.now) laws d (elimination.rows (F.Field.meaning field.now) laws width vectors.now) result }
+    ensures { let m = F.Field.meaning by.now.matrices.field.now in let t = by.now.matrices.tables.now in (laws : FieldLaws m) → Vectors m laws t by.now.k vectors.now → ShapeFound m laws t.size (power m laws t by.now.k (unit m laws)) result }
 {
+    let d = by.matrices.tables.size();
     let family = Family {
         words: vectors,
         stride: WIDTH,
         places: d,
         count: d,
     };
-    match eliminate(field, family, table, pivots, row) {
+    match eliminate(by.matrices.field, family, table, pivots, row) {
         Dependence::Nowhere => Ok(()),
         Dependence::At(j) => Err(JobFault::NoShape(j)),
         Dependence::Refused => Err(JobFault::NotClosed),
     }
 }
 
-// 25: whether the least length of a recurrence of the sequence is d; its place is that length.
+// 25: whether the least length of a recurrence of the sequence is the size of the staircase; its place
+// is that length.
 pub(crate) fn ask_length<F: Field>(
-    field: &F,
-    d: usize,
-    sequence: &[u32],
-    connection: &mut [u32],
-    previous: &mut [u32],
-    spare: &mut [u32],
+    matrices: &Matrices<F>,
+    sequence: &[u32; 96],
+    connection: &mut [u32; 97],
+    previous: &mut [u32; 97],
+    spare: &mut [u32; 97],
 ) -> Result<(), JobFault>
-    requires few { d ≤ width }
-    requires words { length sequence.now ≡ width + width }
-    requires polynomial { length connection.old ≡ width + width + 1 }
-    requires work { (length previous.old ≡ width + width + 1) × (length spare.old ≡ width + width + 1) }
-    ensures { (laws : FieldLaws (F.Field.meaning field.now)) (s : ℕ → Elem (F.Field.meaning field.now)) → Stands (F.Field.meaning field.now) (d + d) sequence.now s → LengthFound (F.Field.meaning field.now) laws d s connection.new result }
+    ensures { let m = F.Field.meaning matrices.now.field.now in let d = matrices.now.tables.now.size in (laws : FieldLaws m) (s : ℕ → Elem m) → Stands m (d + d) sequence.now s → LengthFound m laws d s connection.new result }
 {
-    match recurrence_length(field, &sequence[0..d + d], connection, previous, spare) {
-        Some(l) => {
-            if l == d {
-                Ok(())
-            } else {
-                Err(JobFault::DependentRows(l))
-            }
-        }
-        None => Err(JobFault::NotClosed),
+    let d = matrices.tables.size();
+    let sequence = &sequence[0..d + d];
+    let l = recurrence_length(matrices.field, sequence, connection, previous, spare).ok_or(
+        JobFault::NotClosed,
+    )?;
+    if l != d {
+        return Err(JobFault::DependentRows(l));
     }
+    Ok(())
 }

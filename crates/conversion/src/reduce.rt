@@ -1,6 +1,6 @@
 // Reduce of a closed job: question 23, then the words of the combination of the staircase that a
 // polynomial is congruent to. Nothing is written into the output before all of them stand.
-ghost use Rattle.std.specs.Prelude.{◌≡◌, ◌≤◌, List, length, take, drop, Ok, Err};
+ghost use Rattle.std.specs.Prelude.{◌≡◌, ◌≤◌, List, OnErr, length, take, drop};
 ghost use Rattle.field.specs.Meaning.{FieldLaws};
 ghost use Rattle.order.specs.Laws.{Comparison, OrderLaws};
 ghost use Rattle.runs.specs.Job as job;
@@ -9,7 +9,7 @@ ghost use Rattle.polynomials.specs.Held.{terms_of};
 ghost use Rattle.tables.specs.Holds.{Holds};
 ghost use Rattle.conversion.specs.Answer.{closed_job, Reduces};
 
-use crate::values::evaluate;
+use crate::powers::Matrices;
 use field::Field;
 use order::Monomial;
 use polynomials::{JobFault, Term};
@@ -33,7 +33,7 @@ pub fn reduce<F: Field>(
     terms: &[Term],
     out: &mut [u32],
 ) -> Result<(), JobFault>
-    ensures refused_as_was { elim result [ Ok _ ↦ Unit {0} | Err _ ↦ out.new ≡ out.old ] }
+    ensures refused_as_was { OnErr result (out.new ≡ out.old) }
     ensures rest_unchanged { drop tables.now.size out.new ≡ drop tables.now.size out.old }
     ensures answered { (laws : FieldLaws (F.Field.meaning field.now)) (cmp : Comparison) (ps : List (List job.Term)) → OrderLaws cmp → Sound (F.Field.meaning field.now) laws cmp (closed_job n ps) → Holds (F.Field.meaning field.now) laws cmp n ps tables.now → Reduces (F.Field.meaning field.now) laws cmp n ps (terms_of terms.now) (length out.old) (take tables.now.size out.new) result }
 {
@@ -44,12 +44,7 @@ pub fn reduce<F: Field>(
     if n > Monomial::VARIABLES {
         return Err(JobFault::Variables);
     }
-    let mut vector = [0; 48];
-    let mut next = [0; 48];
-    let mut sum = [0; 48];
-    if !evaluate(field, tables, n, terms, &mut vector, &mut next, &mut sum) {
-        return Err(JobFault::NotClosed);
-    }
-    put_front(&sum, out, d);
+    let value = Matrices { field, tables, n }.evaluate(terms)?;
+    put_front(&value, out, d);
     Ok(())
 }

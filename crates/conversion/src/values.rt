@@ -1,108 +1,63 @@
 // Monomials and polynomials at the multiplication matrices, put to the unit vector of the monomial 1.
-// As with powers, a false says that the tables have no such step.
-ghost use Rattle.std.specs.Prelude.{◌≡◌, ℕ, ◌≤◌, T, length};
+ghost use Rattle.std.specs.Prelude.{◌≡◌, ℕ, ◌<◌, OnOk, OnErr, IfOk};
 ghost use Rattle.field.specs.Meaning.{FieldLaws};
-ghost use Rattle.order.specs.Monomials.{variables};
 ghost use Rattle.algebra.specs.Elements.{Elem, field_of, el};
 ghost use Rattle.tables.specs.Holds.{Ready};
-ghost use Rattle.conversion.specs.Powers.{width, Stands, CanStep, unit, power};
+ghost use Rattle.conversion.specs.Powers.{Stands, unit, power};
 ghost use Rattle.conversion.specs.Values.{acts, value_of};
 
-use crate::powers::{advance, put_unit};
+use crate::powers::{Matrices, Misfit, Walk};
 use field::Field;
 use linear::multiple::add_multiple;
 use order::Monomial;
 use polynomials::Term;
-use tables::Tables;
 
-// Puts the matrix of x_k to the vector e times.
-fn raise<F: Field>(
-    field: &F,
-    tables: &Tables,
-    k: usize,
-    e: u8,
-    vector: &mut [u32],
-    next: &mut [u32],
-) -> bool
-    requires room { (length vector.old ≡ width) × (length next.old ≡ width) }
-    ensures can { CanStep tables.now k result }
-    ensures raised { T result → (laws : FieldLaws (F.Field.meaning field.now)) (f : ℕ → Elem (F.Field.meaning field.now)) → Stands (F.Field.meaning field.now) tables.now.size vector.old f → Stands (F.Field.meaning field.now) tables.now.size vector.new (power (F.Field.meaning field.now) laws tables.now k f e) }
-{
-    for _i in 0..e {
-        if !advance(field, tables, k, vector, next) {
-            return false;
+impl<'a, F: Field> Matrices<'a, F> {
+    // Puts the matrix of x_k to the vector e times.
+    fn raise(&self, k: usize, e: u8, walk: &mut Walk) -> Result<(), Misfit>
+        requires { k < self.now.n }
+        ensures fits { OnErr result (¬ Ready self.now.tables.now self.now.n) }
+        ensures raised { let m = F.Field.meaning self.now.field.now in let t = self.now.tables.now in OnOk result ((laws : FieldLaws m) (f : ℕ → Elem m) → Stands m t.size walk.old.vector f → Stands m t.size walk.new.vector (power m laws t k f e)) }
+    {
+        for _i in 0..e {
+            self.advance(k, walk)?;
         }
+        Ok(())
     }
-    true
-}
 
-// Puts the matrices of n variables to the vector, from the last to the first, each as often as the
-// monomial has its variable.
-fn act<F: Field>(
-    field: &F,
-    tables: &Tables,
-    n: usize,
-    monomial: Monomial,
-    vector: &mut [u32],
-    next: &mut [u32],
-) -> bool
-    requires few { n ≤ variables }
-    requires room { (length vector.old ≡ width) × (length next.old ≡ width) }
-    ensures can { Ready tables.now n → T result }
-    ensures acted { T result → (laws : FieldLaws (F.Field.meaning field.now)) (f : ℕ → Elem (F.Field.meaning field.now)) → Stands (F.Field.meaning field.now) tables.now.size vector.old f → Stands (F.Field.meaning field.now) tables.now.size vector.new (acts (F.Field.meaning field.now) laws tables.now n monomial f) }
-{
-    for k in (0..n).rev() {
-        let e = monomial.exponent(k);
-        if !raise(field, tables, k, e, vector, next) {
-            return false;
+    // Puts all matrices to the vector, from the last to the first, each as often as the monomial has
+    // its variable.
+    fn act(&self, monomial: Monomial, walk: &mut Walk) -> Result<(), Misfit>
+        ensures fits { OnErr result (¬ Ready self.now.tables.now self.now.n) }
+        ensures acted { let m = F.Field.meaning self.now.field.now in let t = self.now.tables.now in OnOk result ((laws : FieldLaws m) (f : ℕ → Elem m) → Stands m t.size walk.old.vector f → Stands m t.size walk.new.vector (acts m laws t self.now.n monomial f)) }
+    {
+        for k in (0..self.n).rev() {
+            self.raise(k, monomial.exponent(k), walk)?;
         }
+        Ok(())
     }
-    true
-}
 
-// Adds the value of a term to the sum.
-fn add_term<F: Field>(
-    field: &F,
-    tables: &Tables,
-    n: usize,
-    term: Term,
-    vector: &mut [u32],
-    next: &mut [u32],
-    sum: &mut [u32],
-) -> bool
-    requires few { n ≤ variables }
-    requires room { (length vector.old ≡ width) × ((length next.old ≡ width) × (length sum.old ≡ width)) }
-    ensures can { Ready tables.now n → T result }
-    ensures added { T result → (laws : FieldLaws (F.Field.meaning field.now)) (s : ℕ → Elem (F.Field.meaning field.now)) → Stands (F.Field.meaning field.now) tables.now.size sum.old s → Stands (F.Field.meaning field.now) tables.now.size sum.new (λ j. (field_of (F.Field.meaning field.now) laws).◌⊕◌ (s j) ((field_of (F.Field.meaning field.now) laws).◌⊗◌ (el (F.Field.meaning field.now) laws term.coefficient) (acts (F.Field.meaning field.now) laws tables.now n term.monomial (unit (F.Field.meaning field.now) laws) j))) }
-{
-    put_unit(field, vector);
-    if !act(field, tables, n, term.monomial, vector, next) {
-        return false;
+    // Adds the value of a term to the sum.
+    fn add_term(&self, term: Term, walk: &mut Walk, sum: &mut [u32; 48]) -> Result<(), Misfit>
+        ensures fits { OnErr result (¬ Ready self.now.tables.now self.now.n) }
+        ensures added { let m = F.Field.meaning self.now.field.now in let t = self.now.tables.now in OnOk result ((laws : FieldLaws m) (s : ℕ → Elem m) → Stands m t.size sum.old s → Stands m t.size sum.new (λ j. (field_of m laws).◌⊕◌ (s j) ((field_of m laws).◌⊗◌ (el m laws term.coefficient) (acts m laws t self.now.n term.monomial (unit m laws) j)))) }
+    {
+        walk.start(self.field);
+        self.act(term.monomial, walk)?;
+        add_multiple(self.field, term.coefficient, &walk.vector, sum);
+        Ok(())
     }
-    add_multiple(field, term.coefficient, vector, sum);
-    true
-}
 
-// The value of a polynomial in n variables.
-pub(crate) fn evaluate<F: Field>(
-    field: &F,
-    tables: &Tables,
-    n: usize,
-    terms: &[Term],
-    vector: &mut [u32],
-    next: &mut [u32],
-    sum: &mut [u32],
-) -> bool
-    requires few { n ≤ variables }
-    requires room { (length vector.old ≡ width) × ((length next.old ≡ width) × (length sum.old ≡ width)) }
-    ensures can { Ready tables.now n → T result }
-    ensures evaluated { T result → (laws : FieldLaws (F.Field.meaning field.now)) → Stands (F.Field.meaning field.now) tables.now.size sum.new (value_of (F.Field.meaning field.now) laws tables.now n terms.now) }
-{
-    sum.fill(field.zero());
-    for i in (0..terms.len()).rev() {
-        if !add_term(field, tables, n, terms[i], vector, next, sum) {
-            return false;
+    // The value of a polynomial.
+    pub(crate) fn evaluate(&self, terms: &[Term]) -> Result<[u32; 48], Misfit>
+        ensures fits { OnErr result (¬ Ready self.now.tables.now self.now.n) }
+        ensures evaluated { let m = F.Field.meaning self.now.field.now in let t = self.now.tables.now in IfOk result (λ sum. (laws : FieldLaws m) → Stands m t.size sum (value_of m laws t self.now.n terms.now)) }
+    {
+        let mut walk = Walk::new();
+        let mut sum = [self.field.zero(); 48];
+        for term in terms {
+            self.add_term(*term, &mut walk, &mut sum)?;
         }
+        Ok(sum)
     }
-    true
 }

@@ -1,5 +1,11 @@
-use Rattle.std.proofs.Common.{◌≡◌, ℕ, ◌≤◌, true, refl, arith}
-use Rattle.linear.specs.Elimination.{fits}
+use Rattle.std.proofs.Common.{◌≡◌, ℕ, ◌≤◌, true, length, Ok, Err, Result, refl, subst, arith}
+use Rattle.algebra.specs.Vector.{Independent, Degree}
+use Rattle.algebra.specs.Elements.{field_of}
+use Rattle.linear.specs.Elimination.{fits, rows}
+use Rattle.polynomials.specs.declared.fault.JobFault.{JobFault}
+use Rattle.polynomials.specs.declared.fault.JobFault.TheVariants.{NoShape}
+use Rattle.conversion.specs.Powers.{width}
+use Rattle.conversion.proofs.Asking.{shape_found}
 use Rattle.conversion.proofs.Room.{is_roomy, it_fits}
 use Rattle.conversion.proofs.questions.ask_independent.Goals as goal
 
@@ -7,12 +13,24 @@ room : (d vectors table pivots row : ℕ) → d ≤ 48 → vectors ≡ 2304 → 
 room d vectors table pivots row h a b c e = it_fits d d 48 vectors table pivots row (is_roomy d d table pivots row (omega arith) (omega arith) (omega arith) (omega arith)) (omega arith) (omega arith)
 
 pub returns-in-Nowhere : goal.returns-in-Nowhere
-returns-in-Nowhere g c laws els = (c.in-Nowhere.ensures.eliminated (room _ _ _ _ _ c.requires.few c.requires.all c.requires.table c.requires.pivots c.requires.row) laws els).1.independent
+returns-in-Nowhere g c laws V =
+    let m = g.F.Field.meaning c.args.by.now.matrices.field.now in
+    let t = c.args.by.now.matrices.tables.now in
+    let vectors = c.args.vectors.now in
+    let x = c.in-Nowhere.ensures.eliminated (room c.size-d.result (length vectors) (length c.args.table.now) (length c.args.pivots.now) (length c.args.row.now) (omega (arith, t.few)) (omega arith) (omega arith) (omega arith) (omega arith)) laws V.elements in
+    let yes : Result (Unit {0}) JobFault = Ok tt in
+    shape_found m laws t c.args.by.now.k c.args.by.now.r.now 0 vectors (omega arith) V yes (subst (λ (d : ℕ). Independent (field_of m laws) d d (rows m laws width vectors)) c.size-d.ensures x.1.independent)
 
 pub returns-in-At : goal.returns-in-At
-returns-in-At g c laws els =
-    let x = c.in-At.ensures.eliminated (room _ _ _ _ _ c.requires.few c.requires.all c.requires.table c.requires.pivots c.requires.row) laws els in
-    (c.in-At.j, refl, x.0, x.1)
+returns-in-At g c laws V =
+    let m = g.F.Field.meaning c.args.by.now.matrices.field.now in
+    let t = c.args.by.now.matrices.tables.now in
+    let vectors = c.args.vectors.now in
+    let x = c.in-At.ensures.eliminated (room c.size-d.result (length vectors) (length c.args.table.now) (length c.args.pivots.now) (length c.args.row.now) (omega (arith, t.few)) (omega arith) (omega arith) (omega arith) (omega arith)) laws V.elements in
+    let no : Result (Unit {0}) JobFault = Err (NoShape c.in-At.j) in
+    shape_found m laws t c.args.by.now.k c.args.by.now.r.now 0 vectors (omega arith) V no (c.in-At.j, refl, omega (arith, x.0), subst (λ (d : ℕ). Degree (field_of m laws) d (rows m laws width vectors) c.in-At.j) c.size-d.ensures x.1)
 
 pub returns-in-Refused : goal.returns-in-Refused
-returns-in-Refused g c laws els = absurd (c.in-Refused.ensures.eliminated (room _ _ _ _ _ c.requires.few c.requires.all c.requires.table c.requires.pivots c.requires.row) laws els)
+returns-in-Refused g c laws V =
+    let t = c.args.by.now.matrices.tables.now in
+    absurd (c.in-Refused.ensures.eliminated (room c.size-d.result (length c.args.vectors.now) (length c.args.table.now) (length c.args.pivots.now) (length c.args.row.now) (omega (arith, t.few)) (omega arith) (omega arith) (omega arith) (omega arith)) laws V.elements)

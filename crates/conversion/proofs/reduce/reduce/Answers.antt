@@ -1,8 +1,14 @@
-use Rattle.std.proofs.Common.{◌≡◌, ℕ, take, drop, sym, subst, arith}
+use Rattle.std.proofs.Common.{◌≡◌, ℕ, take, drop, sym, refl, subst, arith}
+use Rattle.std.proofs.lemmas.Result.{err_from_is_err_and}
 use Rattle.runs.specs.Reduce.{Reduced}
 use Rattle.polynomials.specs.Held.{terms_of}
 use Rattle.conversion.proofs.Reducing.{reduced}
 use Rattle.conversion.proofs.reduce.reduce.Goals as goal
+
+pub returns-in_err-value : goal.returns-in_err-value
+returns-in_err-value g c =
+    let p = err_from_is_err_and c.from_residual.result c.from_residual.ensures.1 in
+    rw p.1 (record { refused_as_was = refl; rest_unchanged = refl; answered = λ laws cmp ps O S H. absurd (c.in_err-value.ensures.fits H.ready) })
 
 pub returns : goal.returns
 returns g c =
@@ -10,13 +16,13 @@ returns g c =
     let n = c.args.n in
     let t = c.args.tables.now in
     let out = c.put_front.new.to in
-    let sum = c.evaluate.new.sum in
-    let front = subst (λ (d : ℕ). take d out ≡ take d sum) c.size-d.ensures c.put_front.ensures.front in
+    let value = c.in_ok-value.value in
+    let front = subst (λ (d : ℕ). take d out ≡ take d value) c.size-d.ensures c.put_front.ensures.front in
     record {
       refused_as_was = tt;
       rest_unchanged = subst (λ (d : ℕ). drop d out ≡ drop d c.args.out.now) c.size-d.ensures c.put_front.ensures.rest_unchanged;
       answered = λ laws cmp ps O S H. (
         omega (arith, H.size),
-        subst (Reduced m laws cmp n ps (terms_of c.args.terms.now)) (sym front) (reduced m laws cmp O n ps S t H c.args.terms.now sum (omega (arith, t.few)) (c.if-not-evaluate.ensures.evaluated tt laws)),
+        subst (Reduced m laws cmp n ps (terms_of c.args.terms.now)) (sym front) (reduced m laws cmp O n ps S t H c.args.terms.now value (omega (arith, t.few)) (c.in_ok-value.ensures.evaluated laws)),
       );
     }

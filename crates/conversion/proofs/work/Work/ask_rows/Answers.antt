@@ -1,19 +1,19 @@
-use Rattle.std.proofs.Common.{ℕ, subst, arith}
+use Rattle.std.proofs.lemmas.Result.{err_from_is_err_and}
 use Rattle.conversion.specs.Powers.{unit, measure}
-use Rattle.conversion.specs.Asked.{LengthFound}
 use Rattle.conversion.proofs.Asking.{rows_asked}
 use Rattle.conversion.proofs.work.Work.ask_rows.Goals as goal
 
-pub returns-then-not-measure_on : goal.returns-then-not-measure_on
-returns-then-not-measure_on g c laws half n ready = absurd (c.if-not-measure_on.ensures.can n ready.0 ready.1 ready.2)
+pub returns-in_err-measure_on : goal.returns-in_err-measure_on
+returns-in_err-measure_on g c =
+    let p = err_from_is_err_and c.from_residual.result c.from_residual.ensures.1 in
+    rw p.1 (λ laws half ready. absurd (c.in_err-measure_on.ensures.fits ready))
 
 pub returns : goal.returns
 returns g c laws half =
-    let m = g.F.Field.meaning c.args.field.now in
-    let t = c.args.tables.now in
-    let k = c.args.k in
-    let r = c.args.r.now in
+    let m = g.F.Field.meaning c.args.by.now.matrices.field.now in
+    let t = c.args.by.now.matrices.tables.now in
+    let k = c.args.by.now.k in
+    let r = c.args.by.now.r.now in
     let s = measure m laws t k r (unit m laws) in
-    let whole = c.if-not-measure_on.ensures.measured tt laws half in
-    rows_asked m laws t k r c.measure_on.new.sequence c.ask_length.new.connection whole c.ask_length.result
-    (subst (λ (d : ℕ). LengthFound m laws d s c.ask_length.new.connection c.ask_length.result) c.size.ensures (c.ask_length.ensures laws s (λ j h. whole j (omega arith))))
+    let whole = c.in_ok-measure_on.ensures.measured laws half in
+    rows_asked m laws t k r c.args.by.now.matrices.n c.measure_on.new.sequence c.ask_length.new.connection whole c.ask_length.result (c.ask_length.ensures laws s whole)
