@@ -7,6 +7,7 @@ use Rattle.std.specs.List.{AllByRecursion}
 use Rattle.std.proofs.lemmas.List.{get_or-map}
 use Rattle.std.proofs.ByRecursion.{All-map, All-get_or, All-from_get_or, All-weaker}
 use Rattle.field.specs.Meaning.{FieldMeaning, FieldLaws}
+use Rattle.order.specs.declared.monomial.Monomial.{Monomial}
 use Rattle.order.specs.Monomials as record_of
 use Rattle.order.specs.Laws.{Comparison, OrderLaws}
 use Rattle.algebra.specs.Field.{Field}
@@ -193,3 +194,14 @@ module _ (m : FieldMeaning) (laws : FieldLaws m) (cmp : Comparison) (O : OrderLa
         ready = λ k kn. subst (λ (room : ℕ). Fits (length S) (places_at places k) room 48 (length S) (length S)) (sym many-columns) (places_fit n S E C.short edges_few k places (omega (arith, C.few)) (products k kn) (length S) (omega arith));
         entries = λ k j i kn hj hi. ap (el m laws) (entry-is k j i kn hj hi) ∙ el_elem m laws (Tk m laws cmp n ps k j i);
       }
+
+  -- over lists that are the staircase and the border
+  module _ (stairs edges : List Monomial) (stairs_is : stairs ≡ map (flat n) S) (edges_is : edges ≡ map (flat n) E) where
+    pub all_placeable : AllPlaceable n stairs edges
+    all_placeable = subst (λ (s : List Monomial). AllPlaceable n s edges) (sym stairs_is) (subst (AllPlaceable n (map (flat n) S)) (sym edges_is) placeable)
+
+    pub all_placed : (places : List Place) → AllPlaced n stairs edges places → AllPlaced n (map (flat n) S) (map (flat n) E) places
+    all_placed places x = subst (λ (s : List Monomial). AllPlaced n s (map (flat n) E) places) stairs_is (subst (λ (e : List Monomial). AllPlaced n stairs e places) edges_is x)
+
+    pub all_known : (places : List Place) → AllPlaced n (map (flat n) S) (map (flat n) E) places → ColumnsKnown n S E es stairs edges places
+    all_known places x = subst (λ (s : List Monomial). ColumnsKnown n S E es s edges places) (sym stairs_is) (subst (λ (e : List Monomial). ColumnsKnown n S E es (map (flat n) S) e places) (sym edges_is) (known places x))

@@ -1,8 +1,11 @@
 -- Two matrices commute where they do at each unit vector.
-use Rattle.std.proofs.Common.{◌≡◌, ℕ, ◌<◌, ◌≤◌, T, ◌↔◌, List, length, get_or, take, set, replicate, sym, refl, ap, ◌∙◌, subst, ap₂, arith, length-set}
+use Rattle.std.proofs.Common.{◌≡◌, ℕ, ◌<◌, ◌≤◌, Bool, true, false, T, ◌↔◌, List, length, get_or, take, set, replicate, sym, refl, ap, ◌∙◌, subst, ap₂, arith, length-set}
 use native.Mathlib.Decide.{ℕ_discrete, dec_lt}
 use lib.ListN.{length-replicate, get_or-replicate}
-use Rattle.std.proofs.lemmas.List.{get_or-set_same, get_or-set_other, length-take-le, get_or-take}
+use Rattle.std.proofs.lemmas.List.{get_or-set_same, get_or-set_other, length-take-le, get_or-take, same_lists}
+use Rattle.std.proofs.lemmas.Grind.{get_or_default_zero}
+use Rattle.std.specs.Bool.{Decides}
+use mathlib.Core.Bool.{false≢true}
 use Rattle.field.specs.Meaning.{FieldMeaning, FieldLaws}
 use Rattle.order.specs.Laws.{Comparison}
 use Rattle.algebra.specs.Field.{Field}
@@ -16,7 +19,7 @@ use Rattle.linear.proofs.Reading as reading
 use Rattle.runs.specs.Job.{Term}
 use Rattle.runs.specs.Generators.{generators, Tk}
 use Rattle.tables.specs.declared.tables.Tables.{Tables}
-use Rattle.tables.specs.Holds.{entry_of, Holds, Stepped}
+use Rattle.tables.specs.Holds.{stair_count, entry_of, Holds, Stepped}
 use Rattle.tables.specs.Agreeing.{product_entry, Commute}
 
 module _ (m : FieldMeaning) (z o i : ℕ) (is_zero : z ≡ m.zero) (is_one : o ≡ m.one) (inside : i < 48) where
@@ -51,13 +54,25 @@ module _ (m : FieldMeaning) (z o i : ℕ) (is_zero : z ≡ m.zero) (is_one : o �
         go (no d) = reading.el_of m laws F.zer _ (unit_off s h d) ∙ sym (sums.basis_other F i s d)
 
     -- two steps from it
-    pub two_steps : (t : Tables) → t.size ≤ 48 → i < t.size → (k l : ℕ) (between out : List ℕ) → Stepped m t l (set (replicate 48 z) i o) between → Stepped m t k between out
-        → (j : ℕ) → j < t.size → read m laws out j ≡ product_entry m laws t k l j i
+    pub two_steps : (t : Tables) → stair_count t ≤ 48 → i < stair_count t → (k l : ℕ) (between out : List ℕ) → Stepped m t l (set (replicate 48 z) i o) between → Stepped m t k between out
+        → (j : ℕ) → j < stair_count t → read m laws out j ≡ product_entry m laws t k l j i
     two_steps t short hi k l between out first then j hj =
         then.applied laws j hj
-        ∙ sums.sum_ext F t.size _ _ (λ r hr. ap (F.◌⊗◌ (entry_of m laws t k j r)) (first.applied laws r hr
-        ∙ sums.sum_ext F t.size _ _ (λ s hs. ap (F.◌⊗◌ (entry_of m laws t l r s)) (unit_read s (omega arith)))
-        ∙ sums.sum_basis F t.size i (entry_of m laws t l r) hi))
+        ∙ sums.sum_ext F (stair_count t) _ _ (λ r hr. ap (F.◌⊗◌ (entry_of m laws t k j r)) (first.applied laws r hr
+        ∙ sums.sum_ext F (stair_count t) _ _ (λ s hs. ap (F.◌⊗◌ (entry_of m laws t l r s)) (unit_read s (omega arith)))
+        ∙ sums.sum_basis F (stair_count t) i (entry_of m laws t l r) hi))
+
+-- a test tells whether what it decides holds
+pub tells : {P Q : Type 0} (b : Bool) → Decides b P → (P ↔ Q) → T b ↔ Q
+tells true d e = (λ _. e.0 (d.0 refl), λ _. tt)
+tells false d e = (λ f. absurd f, λ q. false≢true (d.1 (e.1 q)))
+
+-- the first words of two lists are the same where each is
+pub fronts_same : (d : ℕ) (a b : List ℕ) → d ≤ length a → d ≤ length b → (take d a ≡ take d b) ↔ ((j : ℕ) → j < d → get_or a j 0 ≡ get_or b j 0)
+fronts_same d a b la lb = (
+  λ e j l. sym (get_or-take d a j 0 l) ∙ ap (λ (xs : List ℕ). get_or xs j 0) e ∙ get_or-take d b j 0 l,
+  λ h. same_lists (take d a) (take d b) (length-take-le d a la ∙ sym (length-take-le d b lb)) (λ k x l. let q : k < d = omega (arith, length-take-le d a la) in get_or-take d a k x q ∙ get_or_default_zero a k x (omega arith) ∙ h k q ∙ sym (get_or_default_zero b k x (omega arith)) ∙ sym (get_or-take d b k x q)),
+)
 
 -- words of elements are the same where the elements are
 module _ (m : FieldMeaning) (laws : FieldLaws m) where
@@ -77,14 +92,14 @@ module _ (m : FieldMeaning) (laws : FieldLaws m) where
     abbrev A : ℕ → ℕ → ℕ → Elem m
     A = Tk m laws cmp n ps
 
-    product_is : (k l : ℕ) → k < n → l < n → (j i : ℕ) → j < t.size → i < t.size
-        → product_entry m laws t k l j i ≡ sum (field_of m laws) t.size (λ r. (field_of m laws).◌⊗◌ (A k j r) (A l r i))
-    product_is k l kn ln j i hj hi = sums.sum_ext (field_of m laws) t.size _ _ (λ r hr. ap₂ (field_of m laws).◌⊗◌ (H.entries k j r kn hj hr) (H.entries l r i ln hr hi))
+    product_is : (k l : ℕ) → k < n → l < n → (j i : ℕ) → j < stair_count t → i < stair_count t
+        → product_entry m laws t k l j i ≡ sum (field_of m laws) (stair_count t) (λ r. (field_of m laws).◌⊗◌ (A k j r) (A l r i))
+    product_is k l kn ln j i hj hi = sums.sum_ext (field_of m laws) (stair_count t) _ _ (λ r hr. ap₂ (field_of m laws).◌⊗◌ (H.entries k j r kn hj hr) (H.entries l r i ln hr hi))
 
     abbrev Same : ℕ → ℕ → ℕ → Type 0
     Same d k l = (i j : ℕ) → i < d → j < d → sum (field_of m laws) d (λ r. (field_of m laws).◌⊗◌ (A k j r) (A l r i)) ≡ sum (field_of m laws) d (λ r. (field_of m laws).◌⊗◌ (A l j r) (A k r i))
 
-    same_is : (k l : ℕ) → k < n → l < n → Commute m laws t k l ↔ Same t.size k l
+    same_is : (k l : ℕ) → k < n → l < n → Commute m laws t k l ↔ Same (stair_count t) k l
     same_is k l kn ln = (
       λ h i j hi hj. sym (product_is k l kn ln j i hj hi) ∙ h i hi j hj ∙ product_is l k ln kn j i hj hi,
       λ h i hi j hj. product_is k l kn ln j i hj hi ∙ h i j hi hj ∙ sym (product_is l k ln kn j i hj hi),
@@ -96,10 +111,10 @@ module _ (m : FieldMeaning) (laws : FieldLaws m) where
       λ h l ln k kl. let kn : k < n = omega arith in (same_is k l kn ln).1 (subst (λ (d : ℕ). Same d k l) (sym H.size) (h k l kn ln)),
     )
       where
-        go : ((l : ℕ) → l < n → (k : ℕ) → k < l → Commute m laws t k l) → (k l : ℕ) → k < n → l < n → (i j : ℕ) → i < t.size → j < t.size → Dec (k < l) → Dec (l < k)
-            → sum (field_of m laws) t.size (λ r. (field_of m laws).◌⊗◌ (A k j r) (A l r i)) ≡ sum (field_of m laws) t.size (λ r. (field_of m laws).◌⊗◌ (A l j r) (A k r i))
+        go : ((l : ℕ) → l < n → (k : ℕ) → k < l → Commute m laws t k l) → (k l : ℕ) → k < n → l < n → (i j : ℕ) → i < stair_count t → j < stair_count t → Dec (k < l) → Dec (l < k)
+            → sum (field_of m laws) (stair_count t) (λ r. (field_of m laws).◌⊗◌ (A k j r) (A l r i)) ≡ sum (field_of m laws) (stair_count t) (λ r. (field_of m laws).◌⊗◌ (A l j r) (A k r i))
         go h k l kn ln i j hi hj (yes p) q = (same_is k l kn ln).0 (h l ln k p) i j hi hj
         go h k l kn ln i j hi hj (no p) (yes q) = sym ((same_is l k ln kn).0 (h k kn l q) i j hi hj)
         go h k l kn ln i j hi hj (no p) (no q) =
             let e : k ≡ l = omega arith in
-            subst (λ (a : ℕ). sum (field_of m laws) t.size (λ r. (field_of m laws).◌⊗◌ (A k j r) (A a r i)) ≡ sum (field_of m laws) t.size (λ r. (field_of m laws).◌⊗◌ (A a j r) (A k r i))) e refl
+            subst (λ (a : ℕ). sum (field_of m laws) (stair_count t) (λ r. (field_of m laws).◌⊗◌ (A k j r) (A a r i)) ≡ sum (field_of m laws) (stair_count t) (λ r. (field_of m laws).◌⊗◌ (A a j r) (A k r i))) e refl

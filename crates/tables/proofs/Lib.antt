@@ -1,3 +1,4 @@
+pub mod Answered
 pub mod Parts
 pub mod RuleOf
 pub mod Forms

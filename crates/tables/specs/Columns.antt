@@ -10,12 +10,12 @@
 --   ColumnsKnown                 what is known where columns are made: the code's lists are the staircase S, the border E and the places of the products;
 --                                 nothing stands twice in S or in E, and nothing of E in S; the terms of the polynomials ps have n variables; and a border
 --                                 monomial that leads none of them has a border monomial below it
---   ColumnSteppedBelow          then, where the columns before hold a table and the border monomial at place c leads no polynomial, r is yes and the columns
+--   ColumnSteppedBelow          then, where the columns before hold a table and the border monomial at place c leads no polynomial, r is no refusal and the columns
 --                                 after hold the table with its normal form by the second rule added
---   ColumnAdded                  then, where the columns before hold a table, r is yes and those after hold it with the normal form of that monomial added
---   ColumnsMade                  then r is yes and the columns after hold the table of all border monomials
+--   ColumnAdded                  then, where the columns before hold a table, r is no refusal and those after hold it with the normal form of that monomial added
+--   ColumnsMade                  then r is no refusal and the columns after hold the table of all border monomials
 -- Used by: the making of the columns.
-use Rattle.std.specs.Prelude.{◌≡◌, ℕ, ◌<◌, ◌≤◌, Bool, false, T, List, [], ◌∷◌, map, length, get_or, Some, None, Option, slice_index_or}
+use Rattle.std.specs.Prelude.{◌≡◌, ℕ, ◌<◌, ◌≤◌, false, T, List, [], ◌∷◌, map, length, get_or, Some, None, Option, Result, IsOk, slice_index_or}
 use Rattle.std.specs.List.{AllByRecursion}
 use Rattle.field.specs.Meaning.{FieldMeaning}
 use Rattle.order.specs.declared.monomial.Monomial.{Monomial}
@@ -76,15 +76,15 @@ pub record ColumnsKnown (n : ℕ) (S E : List (Mono n)) (ps : List (List Term)) 
   pub below : (i : ℕ) → i < length E → any (λ p. equal n (lead n p) (slice_index_or E i (one n))) (polys_of n ps) ≡ false
       → (lowest n E (slice_index_or E i (one n)) < n) × (1 ≤ exponent n (slice_index_or E i (one n)) (lowest n E (slice_index_or E i (one n)))) × Among n (lower n (lowest n E (slice_index_or E i (one n))) (slice_index_or E i (one n))) E
 
-abbrev pub ColumnSteppedBelow : FieldMeaning → ℕ → ℕ → List Monomial → List Place → ℕ → List ℕ → List ℕ → Bool → Type 0
+abbrev pub ColumnSteppedBelow : {A E : Type 0} → FieldMeaning → ℕ → ℕ → List Monomial → List Place → ℕ → List ℕ → List ℕ → Result A E → Type 0
 ColumnSteppedBelow m n d edges places c before after r = (ps : List (List Term)) (stairs : List Monomial) (S E : List (Mono n)) (tab : Table ℕ n) → ColumnsKnown n S E ps stairs edges places → length S ≡ d
     → ElementForms m n tab → ColumnsHold m n S E tab before 48 → any (λ p. equal n (lead n p) (slice_index_or E c (one n))) (polys_of n ps) ≡ false
-    → T r × ColumnsHold m n S E ((slice_index_or E c (one n), replaced (words m) n S tab (lowest n E (slice_index_or E c (one n))) (form (words m) n S tab (lower n (lowest n E (slice_index_or E c (one n))) (slice_index_or E c (one n))))) ∷ tab) after 48
+    → IsOk r × ColumnsHold m n S E ((slice_index_or E c (one n), replaced (words m) n S tab (lowest n E (slice_index_or E c (one n))) (form (words m) n S tab (lower n (lowest n E (slice_index_or E c (one n))) (slice_index_or E c (one n))))) ∷ tab) after 48
 
-abbrev pub ColumnAdded : FieldMeaning → ℕ → List (List Term) → List Monomial → List Monomial → List Place → ℕ → List ℕ → List ℕ → Bool → Type 0
+abbrev pub ColumnAdded : {A E : Type 0} → FieldMeaning → ℕ → List (List Term) → List Monomial → List Monomial → List Place → ℕ → List ℕ → List ℕ → Result A E → Type 0
 ColumnAdded m n ps stairs edges places c before after r = (S E : List (Mono n)) (tab : Table ℕ n) → ColumnsKnown n S E ps stairs edges places → ElementForms m n tab → ColumnsHold m n S E tab before 48
-    → T r × ColumnsHold m n S E ((slice_index_or E c (one n), column (words m) n S E (polys_of n ps) tab (slice_index_or E c (one n))) ∷ tab) after 48
+    → IsOk r × ColumnsHold m n S E ((slice_index_or E c (one n), column (words m) n S E (polys_of n ps) tab (slice_index_or E c (one n))) ∷ tab) after 48
 
-abbrev pub ColumnsMade : FieldMeaning → ℕ → List (List Term) → List Monomial → List Monomial → List Place → List ℕ → Bool → Type 0
+abbrev pub ColumnsMade : {A E : Type 0} → FieldMeaning → ℕ → List (List Term) → List Monomial → List Monomial → List Place → List ℕ → Result A E → Type 0
 ColumnsMade m n ps stairs edges places after r = (S E : List (Mono n)) → ColumnsKnown n S E ps stairs edges places
-    → T r × ColumnsHold m n S E (fill (words m) n S E (polys_of n ps) E []) after 48
+    → IsOk r × ColumnsHold m n S E (fill (words m) n S E (polys_of n ps) E []) after 48

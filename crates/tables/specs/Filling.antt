@@ -1,10 +1,9 @@
 -- Border, places and columns of a staircase: the multiplication matrices.
 --   Closable m laws cmp n ps                      the polynomials ps were entered, got a yes to the questions before the last, and tables have room for them
 --   MatricesIn m laws cmp n ps d places columns  places and columns hold the multiplication matrices of ps, of d rows and columns
---   Fills m cmp n ps stairs places columns r      where stairs is the staircase of such polynomials, r is yes and the matrices are held
---   FillsTables m cmp n ps t after r             where the tables t hold that staircase, r is yes and the tables after hold the matrices too
+--   Fills m cmp n ps stairs r                     where stairs is the staircase of such polynomials, r is their tables
 -- Used by: the making of the tables.
-use Rattle.std.specs.Prelude.{◌≡◌, ℕ, ◌<◌, ◌≤◌, Bool, T, List, map, length, take}
+use Rattle.std.specs.Prelude.{◌≡◌, ℕ, ◌<◌, ◌≤◌, List, map, length, Result, IsOkAnd}
 use Rattle.field.specs.Meaning.{FieldMeaning, FieldLaws}
 use Rattle.order.specs.declared.monomial.Monomial.{Monomial}
 use Rattle.order.specs.Monomials.{variables}
@@ -31,8 +30,5 @@ pub record MatricesIn (m : FieldMeaning) (laws : FieldLaws m) (cmp : Comparison)
   pub ready : (k : ℕ) → k < n → Fits d (places_at places k) (length columns) 48 d d
   pub entries : (k j i : ℕ) → k < n → j < d → i < d → matrix m laws (places_at places k) columns 48 j i ≡ Tk m laws cmp n ps k j i
 
-abbrev pub Fills : FieldMeaning → Comparison → ℕ → List (List Term) → List Monomial → List Place → List ℕ → Bool → Type 0
-Fills m cmp n ps stairs places columns r = (laws : FieldLaws m) → Closable m laws cmp n ps → stairs ≡ map (flat n) (basis.stairs n (before_by cmp n) (generators m laws n ps)) → T r × MatricesIn m laws cmp n ps (length stairs) places columns
-
-abbrev pub FillsTables : FieldMeaning → Comparison → ℕ → List (List Term) → Tables → Tables → Bool → Type 0
-FillsTables m cmp n ps t after r = (laws : FieldLaws m) → Closable m laws cmp n ps → take t.size t.stairs ≡ map (flat n) (basis.stairs n (before_by cmp n) (generators m laws n ps)) → T r × Holds m laws cmp n ps after
+abbrev pub Fills : {E : Type 0} → FieldMeaning → Comparison → ℕ → List (List Term) → List Monomial → Result Tables E → Type 0
+Fills m cmp n ps stairs r = (laws : FieldLaws m) → Closable m laws cmp n ps → stairs ≡ map (flat n) (basis.stairs n (before_by cmp n) (generators m laws n ps)) → IsOkAnd r (Holds m laws cmp n ps)

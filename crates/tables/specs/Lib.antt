@@ -1,5 +1,4 @@
 pub mod Holds
-pub mod Finding
 pub mod Products
 pub mod Columns
 pub mod Filling

@@ -1,6 +1,6 @@
 // The columns of the border, one after the other, each by the rule that its monomial falls under.
 // Writes the words of the columns that it is lent.
-ghost use Rattle.std.specs.Prelude.{◌≡◌, ◌+◌, ◌*◌, ◌<◌, ◌≤◌, T, length, drop};
+ghost use Rattle.std.specs.Prelude.{◌≡◌, ◌+◌, ◌*◌, ◌<◌, ◌≤◌, length, drop, IsOk};
 ghost use Rattle.std.proofs.Math.Seq.{paste};
 ghost use Rattle.order.specs.Monomials.{variables};
 ghost use Rattle.staircase.specs.Rules.{opposite_words};
@@ -10,114 +10,83 @@ ghost use Rattle.tables.specs.Columns.{ColumnSteppedBelow, ColumnAdded, ColumnsM
 use crate::below::{led_by, lowest_below};
 use crate::tables::matrix::STRIDE;
 use field::Field;
-use linear::step::Place;
+use linear::step::{Misfit, Place};
 use order::Monomial;
 use polynomials::{Polynomials, Term};
 use staircase::{next_column, opposite_column};
 
-// The column at place `c` by the first rule, from the polynomial that its monomial leads.
-fn lead_column<F: Field>(
-    field: &F,
-    terms: &[Term],
-    stairs: &[Monomial],
-    c: usize,
-    columns: &mut [u32],
-) -> bool
-    requires some { 0 < length terms.now }
-    requires room { c * 48 + length stairs.now ≤ length columns.old }
-    ensures { T result × (columns.new ≡ paste columns.old (c * 48) (opposite_words (F.Field.meaning field.now) (drop 1 terms.now) stairs.now) (length stairs.now)) }
-{
-    let start = c * STRIDE;
-    opposite_column(
-        field,
-        &terms[1..],
-        stairs,
-        &mut columns[start..start + stairs.len()],
-    )
+// What the columns are made from: the polynomials in `n` variables, their staircase, its border, and
+// the places of the products.
+#[derive(Drop)]
+pub(crate) struct Frame<'a, F> {
+    pub(crate) field: &'a F,
+    pub(crate) n: usize,
+    pub(crate) polynomials: &'a Polynomials,
+    pub(crate) stairs: &'a [Monomial],
+    pub(crate) edges: &'a [Monomial],
+    pub(crate) places: &'a [Place],
+    ghost few: { n ≤ variables },
+    ghost short: { length stairs.now ≤ 48 },
+    ghost edged: { length edges.now ≤ 192 },
+    ghost placed: { length places.now ≡ 192 },
 }
 
-// The column at place `c` by the second rule, from the column of the border monomial below.
-fn step_column<F: Field>(
-    field: &F,
-    n: usize,
-    d: usize,
-    edges: &[Monomial],
-    c: usize,
-    places: &[Place],
-    columns: &mut [u32],
-) -> bool
-    requires few { n ≤ variables }
-    requires short { d ≤ 48 }
-    requires edges { length edges.now ≤ 192 }
-    requires place { c < length edges.now }
-    requires places { length places.now ≡ 192 }
-    requires columns { length columns.old ≡ 9216 }
-    ensures { ColumnSteppedBelow (F.Field.meaning field.now) n d edges.now places.now c columns.old columns.new result }
-{
-    let Some(below) = lowest_below(n, edges, edges[c]) else {
-        return false;
-    };
-    let start = below.variable * STRIDE;
-    let mut out = [0; 48];
-    next_column(
-        field,
-        d,
-        &places[start..start + STRIDE],
-        columns,
-        STRIDE,
-        below.place,
-        c,
-        &mut out,
-    )
-}
-
-// The column at place `c` by the rule that its monomial falls under: false where there is none.
-fn fill_column<F: Field>(
-    field: &F,
-    n: usize,
-    polynomials: &Polynomials,
-    stairs: &[Monomial],
-    edges: &[Monomial],
-    c: usize,
-    places: &[Place],
-    columns: &mut [u32],
-) -> bool
-    requires few { n ≤ variables }
-    requires short { length stairs.now ≤ 48 }
-    requires edges { length edges.now ≤ 192 }
-    requires place { c < length edges.now }
-    requires places { length places.now ≡ 192 }
-    requires columns { length columns.old ≡ 9216 }
-    ensures { ColumnAdded (F.Field.meaning field.now) n (entries polynomials.now) stairs.now edges.now places.now c columns.old columns.new result }
-{
-    match led_by(polynomials, edges[c]) {
-        Some(i) => lead_column(field, polynomials.polynomial(i), stairs, c, columns),
-        None => step_column(field, n, stairs.len(), edges, c, places, columns),
+impl<'a, F: Field> Frame<'a, F> {
+    // The column at place `c` by the first rule, from the polynomial that its monomial leads.
+    fn lead_column(&self, terms: &[Term], c: usize, columns: &mut [u32; 9216]) -> Result<(), Misfit>
+        requires some { 0 < length terms.now }
+        requires place { c < length self.now.edges.now }
+        ensures fits { IsOk result }
+        ensures pasted { columns.new ≡ paste columns.old (c * 48) (opposite_words (F.Field.meaning self.now.field.now) (drop 1 terms.now) self.now.stairs.now) (length self.now.stairs.now) }
+    {
+        let start = c * STRIDE;
+        opposite_column(
+            self.field,
+            &terms[1..],
+            self.stairs,
+            &mut columns[start..start + self.stairs.len()],
+        )
     }
-}
 
-// The columns of all border monomials, in their order: false where one falls under no rule.
-pub(crate) fn fill_columns<F: Field>(
-    field: &F,
-    n: usize,
-    polynomials: &Polynomials,
-    stairs: &[Monomial],
-    edges: &[Monomial],
-    places: &[Place],
-    columns: &mut [u32],
-) -> bool
-    requires few { n ≤ variables }
-    requires short { length stairs.now ≤ 48 }
-    requires edges { length edges.now ≤ 192 }
-    requires places { length places.now ≡ 192 }
-    requires columns { length columns.old ≡ 9216 }
-    ensures { ColumnsMade (F.Field.meaning field.now) n (entries polynomials.now) stairs.now edges.now places.now columns.new result }
-{
-    columns.fill(field.zero());
-    for c in 0..edges.len() {
-        if !fill_column(field, n, polynomials, stairs, edges, c, places, columns) {
-            return false;
+    // The column at place `c` by the second rule, from the column of the border monomial below.
+    fn step_column(&self, c: usize, columns: &mut [u32; 9216]) -> Result<(), Misfit>
+        requires { c < length self.now.edges.now }
+        ensures { ColumnSteppedBelow (F.Field.meaning self.now.field.now) self.now.n (length self.now.stairs.now) self.now.edges.now self.now.places.now c columns.old columns.new result }
+    {
+        let below = lowest_below(self.n, self.edges, self.edges[c]).ok_or(Misfit)?;
+        let start = below.variable * STRIDE;
+        let mut out = [0; 48];
+        next_column(
+            self.field,
+            self.stairs.len(),
+            &self.places[start..start + STRIDE],
+            columns,
+            STRIDE,
+            below.place,
+            c,
+            &mut out,
+        )
+    }
+
+    // The column at place `c` by the rule that its monomial falls under.
+    fn fill_column(&self, c: usize, columns: &mut [u32; 9216]) -> Result<(), Misfit>
+        requires { c < length self.now.edges.now }
+        ensures { ColumnAdded (F.Field.meaning self.now.field.now) self.now.n (entries self.now.polynomials.now) self.now.stairs.now self.now.edges.now self.now.places.now c columns.old columns.new result }
+    {
+        match led_by(self.polynomials, self.edges[c]) {
+            Some(i) => self.lead_column(self.polynomials.polynomial(i), c, columns),
+            None => self.step_column(c, columns),
         }
     }
-    true
+
+    // The columns of all border monomials, in their order: refused where one falls under no rule.
+    pub(crate) fn fill_columns(&self, columns: &mut [u32; 9216]) -> Result<(), Misfit>
+        ensures { ColumnsMade (F.Field.meaning self.now.field.now) self.now.n (entries self.now.polynomials.now) self.now.stairs.now self.now.edges.now self.now.places.now columns.new result }
+    {
+        columns.fill(self.field.zero());
+        for c in 0..self.edges.len() {
+            self.fill_column(c, columns)?;
+        }
+        Ok(())
+    }
 }

@@ -4,7 +4,6 @@
 
 mod below;
 mod columns;
-mod filling;
 mod products;
 pub mod tables;
 

@@ -1,6 +1,6 @@
 // The agreement of the multiplication matrices: any two of them commute, found column by column. Only
 // reads.
-ghost use Rattle.std.specs.Prelude.{◌≡◌, ℕ, ◌<◌, ◌≤◌, T, ◌↔◌, List, length, slice_index};
+ghost use Rattle.std.specs.Prelude.{◌≡◌, ℕ, ◌<◌, ◌≤◌, T, ◌↔◌, List};
 ghost use Rattle.field.specs.Meaning.{FieldLaws};
 ghost use Rattle.order.specs.Monomials.{variables};
 ghost use Rattle.order.specs.Laws.{Comparison};
@@ -9,68 +9,54 @@ ghost use Rattle.algebra.specs.Records.{before_by};
 ghost use Rattle.algebra.specs.Matrices.{Agree};
 ghost use Rattle.runs.specs.Job.{Term as JobTerm};
 ghost use Rattle.runs.specs.Generators.{generators};
-ghost use Rattle.tables.specs.Holds.{Ready, Holds};
+ghost use Rattle.tables.specs.Holds.{stair_count, Ready, Holds};
 ghost use Rattle.tables.specs.Agreeing.{ProductColumn, CommuteAt, Commute, StepsFit};
 
 use crate::Tables;
 use field::Field;
-
-// Whether the first `d` words of both lists are the same.
-fn same_words(d: usize, a: &[u32], b: &[u32]) -> bool
-    requires first { d ≤ length a.now }
-    requires second { d ≤ length b.now }
-    ensures { T result ↔ ((j : ℕ) → j < d → slice_index a.now j ≡ slice_index b.now j) }
-{
-    for j in 0..d {
-        if a[j] != b[j] {
-            return false;
-        }
-    }
-    true
-}
+use linear::step::Misfit;
 
 impl Tables {
-    // Column `i` of the product of the matrices of x_k and x_l, both counted from 0: false where a step
-    // does not fit.
+    // Column `i` of the product of the matrices of x_k and x_l, both counted from 0.
     fn product_column<F: Field>(
         &self,
         field: &F,
         k: usize,
         l: usize,
         i: usize,
-        out: &mut [u32],
-    ) -> bool
-        requires place { i < 48 }
-        requires room { length out.old ≡ 48 }
-        ensures { ProductColumn (F.Field.meaning field.now) self.now k l i out.new result }
+    ) -> Result<[u32; 48], Misfit>
+        requires { i < 48 }
+        ensures { ProductColumn (F.Field.meaning field.now) self.now k l i result }
     {
         let mut unit = [field.zero(); 48];
         unit[i] = field.one();
         let mut between = [0; 48];
-        self.step(field, l, &unit, &mut between) && self.step(field, k, &between, out)
+        self.step(field, l, &unit, &mut between)?;
+        let mut out = [0; 48];
+        self.step(field, k, &between, &mut out)?;
+        Ok(out)
     }
 
     // Whether column `i` of the product of the matrices of x_k and x_l is the same in both orders.
     fn commute_at<F: Field>(&self, field: &F, k: usize, l: usize, i: usize) -> bool
-        requires { i < self.now.size }
+        requires { i < stair_count self.now }
         ensures { (laws : FieldLaws (F.Field.meaning field.now)) → StepsFit self.now k l → T result ↔ CommuteAt (F.Field.meaning field.now) laws self.now k l i }
     {
-        let mut ahead = [0; 48];
-        if !self.product_column(field, k, l, i, &mut ahead) {
+        let d = self.size();
+        let Ok(ahead) = self.product_column(field, k, l, i) else {
             return false;
-        }
-        let mut back = [0; 48];
-        if !self.product_column(field, l, k, i, &mut back) {
+        };
+        let Ok(back) = self.product_column(field, l, k, i) else {
             return false;
-        }
-        same_words(self.size, &ahead, &back)
+        };
+        ahead[..d] == back[..d]
     }
 
     // Whether the matrices of x_k and x_l commute.
     fn commute<F: Field>(&self, field: &F, k: usize, l: usize) -> bool
         ensures { (laws : FieldLaws (F.Field.meaning field.now)) → StepsFit self.now k l → T result ↔ Commute (F.Field.meaning field.now) laws self.now k l }
     {
-        for i in 0..self.size {
+        for i in 0..self.size() {
             if !self.commute_at(field, k, l, i) {
                 return false;
             }

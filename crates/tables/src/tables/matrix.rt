@@ -1,12 +1,13 @@
 // Reading the tables: how many staircase monomials there are, each of them, and the product of a
 // multiplication matrix and a vector.
-ghost use Rattle.std.specs.Prelude.{◌≡◌, ◌<◌, false, length, drop, if◌then◌else◌, Some, None, nat_lt, slice_index_or};
-ghost use Rattle.tables.specs.Holds.{Steps};
+ghost use Rattle.std.specs.Prelude.{◌≡◌, length, drop, if◌then◌else◌, Some, None, OnErr, nat_lt, slice_index_or};
+ghost use Rattle.tables.specs.Holds.{stair_count, Steps};
 ghost use Rattle.order.specs.Monomials.{one};
 
 use crate::Tables;
+use arrayvec::ArrayVec;
 use field::Field;
-use linear::step::{Place, step};
+use linear::step::{Misfit, Place, step};
 use order::Monomial;
 
 // How many places and columns there are for each variable, and the words from one column to the
@@ -16,16 +17,10 @@ pub(crate) const STRIDE: usize = 48;
 impl Tables {
     // No staircase.
     pub fn new() -> Tables
-        ensures { result.size ≡ 0 }
+        ensures { stair_count result ≡ 0 }
     {
         Tables {
-            size: 0,
-            stairs: [Monomial {
-                x1: 0,
-                x2: 0,
-                x3: 0,
-                x4: 0,
-            }; 48],
+            stairs: ArrayVec::new(),
             places: [Place::Stair(0); 192],
             columns: [0; 9216],
         }
@@ -33,35 +28,37 @@ impl Tables {
 
     // The number of staircase monomials.
     pub fn size(&self) -> usize
-        ensures { result ≡ self.now.size }
+        ensures { result ≡ stair_count self.now }
     {
-        self.size
+        self.stairs.len()
     }
 
     // The staircase monomial at a place counted from 0.
     pub fn stair(&self, i: usize) -> Option<Monomial>
-        ensures { result ≡ (if nat_lt i self.now.size then Some (slice_index_or self.now.stairs i one) else None) }
+        ensures { result ≡ (if nat_lt i (stair_count self.now) then Some (slice_index_or self.now.stairs.items i one) else None) }
     {
-        if i < self.size {
-            Some(self.stairs[i])
-        } else {
-            None
-        }
+        self.stairs.as_slice().get(i).copied()
     }
 
     // The matrix of x_k, counted from 0, times the first words of `v`, written over those of `out`:
-    // false, and nothing is written, where something does not fit.
-    pub fn step<F: Field>(&self, field: &F, k: usize, v: &[u32], out: &mut [u32]) -> bool
-        ensures refused_as_was { result ≡ false → out.new ≡ out.old }
-        ensures rest_unchanged { drop self.now.size out.new ≡ drop self.now.size out.old }
+    // nothing is written where something does not fit.
+    pub fn step<F: Field>(
+        &self,
+        field: &F,
+        k: usize,
+        v: &[u32],
+        out: &mut [u32],
+    ) -> Result<(), Misfit>
+        ensures refused_as_was { OnErr result (out.new ≡ out.old) }
+        ensures rest_unchanged { drop (stair_count self.now) out.new ≡ drop (stair_count self.now) out.old }
         ensures stepped { Steps (F.Field.meaning field.now) self.now k v.now (length out.old) out.new result }
     {
         if k >= Monomial::VARIABLES {
-            return false;
+            return Err(Misfit);
         }
         step(
             field,
-            self.size,
+            self.size(),
             &self.places[k * STRIDE..k * STRIDE + STRIDE],
             &self.columns,
             STRIDE,

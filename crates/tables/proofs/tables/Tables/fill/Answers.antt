@@ -1,31 +1,85 @@
-use Rattle.std.proofs.Common.{◌≡◌, ℕ, ◌-◌, length, take, sym, ap, ◌∙◌, subst, arith}
+use Rattle.std.proofs.Common.{ℕ, map, length, sym, ap, ◌∙◌, subst, arith}
 use lib.ListN.{length-map}
-use Rattle.std.proofs.lemmas.List.{length-take-le}
+use mathlib.Core.Bool.{false≢true}
 use Rattle.algebra.specs.Records.{flat, before_by}
 use Rattle.algebra.specs.Basis as basis
+use Rattle.staircase.specs.Edges.{Raisable, edges_of}
 use Rattle.runs.specs.Generators.{generators}
-use Rattle.polynomials.specs.Held.{held}
+use Rattle.polynomials.specs.Held.{entries, held}
 use Rattle.tables.specs.Filling.{MatricesIn}
+use Rattle.tables.proofs.Closing as closing
 use Rattle.tables.proofs.tables.Tables.fill.Goals as goal
+
+pub returns-in_default : goal.returns-in_default
+returns-in_default g c laws C is =
+    let m = g.F.Field.meaning c.args.field.now in
+    let cmp = g.O.Order.meaning c.args.order.now in
+    let O = g.met.O.Order.lawful c.args.order.now in
+    let n = c.args.n in
+    let es = entries c.args.polynomials.now in
+    let given = c.as_slice.ensures.value ∙ is in
+    let longer = c.in_default.ensures (subst (Raisable n) (sym given) (closing.raisable m laws cmp O n es C)) in
+    let same = ap length (ap (edges_of cmp n) given ∙ closing.edges_are m laws cmp O n es C) in
+    absurd (omega (arith, longer, same, closing.edges_few m laws cmp O n es C))
+
+pub returns-in_err-places : goal.returns-in_err-places
+returns-in_err-places g c laws C is =
+    let m = g.F.Field.meaning c.args.field.now in
+    let cmp = g.O.Order.meaning c.args.order.now in
+    let O = g.met.O.Order.lawful c.args.order.now in
+    let n = c.args.n in
+    let es = entries c.args.polynomials.now in
+    let given = c.as_slice.ensures.value ∙ is in
+    let are = c.in-Ok.ensures (subst (Raisable n) (sym given) (closing.raisable m laws cmp O n es C)) ∙ ap (map (flat n)) (ap (edges_of cmp n) given ∙ closing.edges_are m laws cmp O n es C) in
+    let stairs = c.as_slice-2.result.now in
+    let edges = c.as_slice-3.result.now in
+    let stairs_is = c.as_slice-2.ensures.value ∙ is in
+    let edges_is = c.as_slice-3.ensures.value ∙ are in
+    let able = closing.all_placeable m laws cmp O n es C stairs edges stairs_is edges_is in
+    absurd (c.in_err-places.ensures able)
+
+pub returns-in_err-fill_columns : goal.returns-in_err-fill_columns
+returns-in_err-fill_columns g c laws C is =
+    let m = g.F.Field.meaning c.args.field.now in
+    let cmp = g.O.Order.meaning c.args.order.now in
+    let O = g.met.O.Order.lawful c.args.order.now in
+    let n = c.args.n in
+    let es = entries c.args.polynomials.now in
+    let S = basis.stairs n (before_by cmp n) (generators m laws n (held c.args.polynomials.now)) in
+    let E = basis.edges n (before_by cmp n) (generators m laws n (held c.args.polynomials.now)) in
+    let given = c.as_slice.ensures.value ∙ is in
+    let are = c.in-Ok.ensures (subst (Raisable n) (sym given) (closing.raisable m laws cmp O n es C)) ∙ ap (map (flat n)) (ap (edges_of cmp n) given ∙ closing.edges_are m laws cmp O n es C) in
+    let stairs = c.as_slice-2.result.now in
+    let edges = c.as_slice-3.result.now in
+    let stairs_is = c.as_slice-2.ensures.value ∙ is in
+    let edges_is = c.as_slice-3.ensures.value ∙ are in
+    let able = closing.all_placeable m laws cmp O n es C stairs edges stairs_is edges_is in
+    let places = c.in_ok-places.places in
+    let placed = closing.all_placed m laws cmp O n es C stairs edges stairs_is edges_is places (c.in_ok-places.ensures able) in
+    let known = closing.all_known m laws cmp O n es C c.as_slice-4.result.now c.as_slice-5.result.now (c.as_slice-4.ensures.value ∙ is) (c.as_slice-5.ensures.value ∙ are) places placed in
+    absurd (false≢true (c.in_err-fill_columns.ensures S E known).0)
 
 pub returns : goal.returns
 returns g c laws C is =
     let m = g.F.Field.meaning c.args.field.now in
     let cmp = g.O.Order.meaning c.args.order.now in
+    let O = g.met.O.Order.lawful c.args.order.now in
     let n = c.args.n in
-    let t = c.args.self.now in
-    let ps = held c.args.polynomials.now in
-    let S = basis.stairs n (before_by cmp n) (generators m laws n ps) in
-    let whole : t.size - 0 ≡ t.size = omega arith in
-    let cut : take (t.size - 0) t.stairs ≡ take t.size t.stairs = ap (λ (k : ℕ). take k t.stairs) whole in
-    let long : length (take t.size t.stairs) ≡ t.size = length-take-le t.size t.stairs (omega arith) in
-    let filled = c.fill_matrices.ensures laws C (cut ∙ is) in
-    let held_in = subst (λ (d : ℕ). MatricesIn m laws cmp n ps d c.fill_matrices.new.places c.fill_matrices.new.columns) (ap length cut ∙ long) filled.1 in (
-      filled.0,
-      record {
-        size = sym long ∙ ap length is ∙ length-map S (flat n);
-        stairs = is;
-        ready = held_in.ready;
-        entries = held_in.entries;
-      },
-    )
+    let es = entries c.args.polynomials.now in
+    let S = basis.stairs n (before_by cmp n) (generators m laws n (held c.args.polynomials.now)) in
+    let E = basis.edges n (before_by cmp n) (generators m laws n (held c.args.polynomials.now)) in
+    let given = c.as_slice.ensures.value ∙ is in
+    let are = c.in-Ok.ensures (subst (Raisable n) (sym given) (closing.raisable m laws cmp O n es C)) ∙ ap (map (flat n)) (ap (edges_of cmp n) given ∙ closing.edges_are m laws cmp O n es C) in
+    let stairs = c.as_slice-2.result.now in
+    let edges = c.as_slice-3.result.now in
+    let stairs_is = c.as_slice-2.ensures.value ∙ is in
+    let edges_is = c.as_slice-3.ensures.value ∙ are in
+    let able = closing.all_placeable m laws cmp O n es C stairs edges stairs_is edges_is in
+    let places = c.in_ok-places.places in
+    let placed = closing.all_placed m laws cmp O n es C stairs edges stairs_is edges_is places (c.in_ok-places.ensures able) in
+    let known = closing.all_known m laws cmp O n es C c.as_slice-4.result.now c.as_slice-5.result.now (c.as_slice-4.ensures.value ∙ is) (c.as_slice-5.ensures.value ∙ are) places placed in
+    let columns = c.fill_columns.new.columns in
+    let made = c.in_ok-fill_columns.ensures S E known in
+    let size = ap length is ∙ length-map S (flat n) in
+    let held_in = subst (λ (d : ℕ). MatricesIn m laws cmp n (held c.args.polynomials.now) d places columns) (sym size) (closing.matrices m laws cmp O n es C places placed columns made.1 (omega arith) c.fill_columns.array_long) in
+    record { size = size; stairs = is; ready = held_in.ready; entries = held_in.entries }

@@ -6,24 +6,24 @@ use Rattle.tables.specs.Making.{Made}
 use Rattle.tables.proofs.Asking as asking
 use Rattle.tables.proofs.tables.Tables.make.Goals as goal
 
-pub returns-in_err-ask_stairs : goal.returns-in_err-ask_stairs
-returns-in_err-ask_stairs g c =
+pub returns-in_err-stairs : goal.returns-in_err-stairs
+returns-in_err-stairs g c =
     let m = g.F.Field.meaning c.args.field.now in
     let cmp = g.O.Order.meaning c.args.order.now in
     let O = g.met.O.Order.lawful c.args.order.now in
     let n = c.args.n in
     let ps = held c.args.polynomials.now in
-    let f = c.in_err-ask_stairs.field-0.0 in
+    let f = c.in_err-stairs.field-0.0 in
     let p = err_from_is_err_and c.from_residual.result c.from_residual.ensures.1 in
-    subst (Made m cmp n ps c.ask_stairs.new.self) (sym (p.1 ∙ ap (λ (e : JobFault). Err e) p.2)) (λ laws few en. asking.stairs_refused m laws cmp O n ps few en f (c.in_err-ask_stairs.ensures m laws few en).0)
+    subst (Made m cmp n ps) (sym (p.1 ∙ ap (λ (e : JobFault). Err e) p.2)) (λ laws few en. asking.stairs_refused m laws cmp O n ps few en f (c.in_err-stairs.ensures m laws few en).0)
 
-pub returns-then-not-fill : goal.returns-then-not-fill
-returns-then-not-fill g c laws few en =
+pub returns-in_default : goal.returns-in_default
+returns-in_default g c laws few en =
     let m = g.F.Field.meaning c.args.field.now in
     let cmp = g.O.Order.meaning c.args.order.now in
     let O = g.met.O.Order.lawful c.args.order.now in
-    let asked = c.in_ok-ask_stairs.ensures m laws few en in
-    absurd (c.if-not-fill.ensures laws (asking.closable m laws cmp O c.args.n (held c.args.polynomials.now) few en asked.0) (asked.1 asked.0)).0
+    let asked = c.in_ok-stairs.ensures m laws few en in
+    absurd (c.in_default.ensures laws (asking.closable m laws cmp O c.args.n (held c.args.polynomials.now) few en asked.0) asked.1)
 
 pub returns-then-not-agree : goal.returns-then-not-agree
 returns-then-not-agree g c laws few en =
@@ -31,9 +31,9 @@ returns-then-not-agree g c laws few en =
     let cmp = g.O.Order.meaning c.args.order.now in
     let O = g.met.O.Order.lawful c.args.order.now in
     let ps = held c.args.polynomials.now in
-    let asked = c.in_ok-ask_stairs.ensures m laws few en in
-    let filled = c.if-not-fill.ensures laws (asking.closable m laws cmp O c.args.n ps few en asked.0) (asked.1 asked.0) in
-    asking.agree_refused m laws cmp O c.args.n ps few en asked.0 (c.if-not-agree.ensures laws cmp ps few filled.1).1
+    let asked = c.in_ok-stairs.ensures m laws few en in
+    let filled = c.in-Ok.ensures laws (asking.closable m laws cmp O c.args.n ps few en asked.0) asked.1 in
+    asking.agree_refused m laws cmp O c.args.n ps few en asked.0 (c.if-not-agree.ensures laws cmp ps few filled).1
 
 pub returns : goal.returns
 returns g c laws few en =
@@ -41,6 +41,6 @@ returns g c laws few en =
     let cmp = g.O.Order.meaning c.args.order.now in
     let O = g.met.O.Order.lawful c.args.order.now in
     let ps = held c.args.polynomials.now in
-    let asked = c.in_ok-ask_stairs.ensures m laws few en in
-    let filled = c.if-not-fill.ensures laws (asking.closable m laws cmp O c.args.n ps few en asked.0) (asked.1 asked.0) in
-    (asking.agree_yes m laws cmp O c.args.n ps few en asked.0 ((c.if-not-agree.ensures laws cmp ps few filled.1).0 tt), filled.1.size, filled.1)
+    let asked = c.in_ok-stairs.ensures m laws few en in
+    let filled = c.in-Ok.ensures laws (asking.closable m laws cmp O c.args.n ps few en asked.0) asked.1 in
+    (asking.agree_yes m laws cmp O c.args.n ps few en asked.0 ((c.if-not-agree.ensures laws cmp ps few filled).0 tt), filled)

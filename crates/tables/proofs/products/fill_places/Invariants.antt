@@ -1,5 +1,0 @@
-use Rattle.tables.specs.Products.{AllPlaced}
-use Rattle.tables.proofs.products.fill_places.Given as goal
-
-abbrev pub invariant-loop-k : goal.invariant-loop-k
-invariant-loop-k l = AllPlaced l.k l.stairs l.edges l.out

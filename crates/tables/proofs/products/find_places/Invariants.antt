@@ -1,0 +1,5 @@
+use Rattle.tables.specs.Products.{AllPlaced}
+use Rattle.tables.proofs.products.find_places.Given as goal
+
+abbrev pub invariant-loop-k : goal.invariant-loop-k
+invariant-loop-k l = AllPlaced l.k l.stairs l.edges l.all

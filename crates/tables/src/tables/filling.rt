@@ -1,0 +1,50 @@
+// From a staircase to the tables: its border, the places of the products and the border columns.
+ghost use Rattle.polynomials.specs.Held.{held};
+ghost use Rattle.tables.specs.Filling.{Fills};
+
+use crate::Tables;
+use crate::columns::Frame;
+use crate::products::find_places;
+use arrayvec::ArrayVec;
+use field::Field;
+use linear::step::Misfit;
+use order::{Monomial, Order};
+use polynomials::Polynomials;
+use staircase::border;
+
+impl Tables {
+    // The tables of the polynomials with the staircase `stairs`: refused where the border is too long, a
+    // product has no place, or a border monomial falls under no rule.
+    pub(crate) fn fill<F: Field, O: Order>(
+        field: &F,
+        order: &O,
+        n: usize,
+        polynomials: &Polynomials,
+        stairs: ArrayVec<Monomial, 48>,
+    ) -> Result<Tables, Misfit>
+        ensures { Fills (F.Field.meaning field.now) (O.Order.meaning order.now) n (held polynomials.now) stairs.items result }
+    {
+        if n > Monomial::VARIABLES {
+            return Err(Misfit);
+        }
+        let Ok(edges) = border::<O, 192>(order, n, stairs.as_slice()) else {
+            return Err(Misfit);
+        };
+        let places = find_places(n, stairs.as_slice(), edges.as_slice())?;
+        let mut columns = [0; 9216];
+        let frame = Frame {
+            field,
+            n,
+            polynomials,
+            stairs: stairs.as_slice(),
+            edges: edges.as_slice(),
+            places: &places,
+        };
+        frame.fill_columns(&mut columns)?;
+        Ok(Tables {
+            stairs,
+            places,
+            columns,
+        })
+    }
+}
