@@ -6,6 +6,7 @@ use Rattle.linear.specs.Elimination.{rows}
 use Rattle.linear.proofs.WordLists.{read_is}
 use Rattle.tables.specs.declared.tables.Tables.{Tables}
 use Rattle.polynomials.specs.declared.fault.JobFault.{JobFault}
+use Rattle.tables.specs.Holds.{stair_count}
 use Rattle.conversion.specs.Powers.{width, unit, power, measure, Vectors}
 use Rattle.conversion.specs.Asked.{ShapeFound, LengthFound}
 use Rattle.conversion.specs.Phases.{Half, Whole, ShapeAsked, RowsAsked}
@@ -13,20 +14,20 @@ use Rattle.conversion.proofs.Along.{independent_along, degree_along}
 
 module _ (m : FieldMeaning) (laws : FieldLaws m) (t : Tables) (k : ℕ) (r : List ℕ) (n : ℕ) where
   -- of the words that hold the powers
-  pub shape_found : (vectors : List ℕ) → length vectors ≡ width * width → Vectors m laws t k vectors → {A : Type 0} (a : Result A JobFault) → ShapeFound m laws t.size (rows m laws width vectors) a → ShapeFound m laws t.size (power m laws t k (unit m laws)) a
+  pub shape_found : (vectors : List ℕ) → length vectors ≡ width * width → Vectors m laws t k vectors → {A : Type 0} (a : Result A JobFault) → ShapeFound m laws (stair_count t) (rows m laws width vectors) a → ShapeFound m laws (stair_count t) (power m laws t k (unit m laws)) a
   shape_found vectors long V a = go a
     where
-      same : (j i : ℕ) → j < t.size → i < t.size → rows m laws width vectors j i ≡ power m laws t k (unit m laws) j i
+      same : (j i : ℕ) → j < stair_count t → i < stair_count t → rows m laws width vectors j i ≡ power m laws t k (unit m laws) j i
       same j i p q = read_is m laws vectors (j * width + i) (power m laws t k (unit m laws) j i) (omega (arith, t.few)) (V.stand j p i q)
 
-      go : {A : Type 0} (a : Result A JobFault) → ShapeFound m laws t.size (rows m laws width vectors) a → ShapeFound m laws t.size (power m laws t k (unit m laws)) a
-      go (Ok a) x = independent_along (field_of m laws) t.size (rows m laws width vectors) (power m laws t k (unit m laws)) t.size same x
-      go (Err f) x = (x.0, x.1, x.2, degree_along (field_of m laws) t.size (rows m laws width vectors) (power m laws t k (unit m laws)) t.size same x.0 x.2 x.3)
+      go : {A : Type 0} (a : Result A JobFault) → ShapeFound m laws (stair_count t) (rows m laws width vectors) a → ShapeFound m laws (stair_count t) (power m laws t k (unit m laws)) a
+      go (Ok a) x = independent_along (field_of m laws) (stair_count t) (rows m laws width vectors) (power m laws t k (unit m laws)) (stair_count t) same x
+      go (Err f) x = (x.0, x.1, x.2, degree_along (field_of m laws) (stair_count t) (rows m laws width vectors) (power m laws t k (unit m laws)) (stair_count t) same x.0 x.2 x.3)
 
-  pub shape_asked : (sequence vector : List ℕ) → Half m laws t k r sequence vector → {A : Type 0} (a : Result A JobFault) → ShapeFound m laws t.size (power m laws t k (unit m laws)) a → ShapeAsked m laws t k r n sequence vector a
+  pub shape_asked : (sequence vector : List ℕ) → Half m laws t k r sequence vector → {A : Type 0} (a : Result A JobFault) → ShapeFound m laws (stair_count t) (power m laws t k (unit m laws)) a → ShapeAsked m laws t k r n sequence vector a
   shape_asked sequence vector half (Ok a) x = (x, half)
   shape_asked sequence vector half (Err f) x = λ ready. x
 
-  pub rows_asked : (sequence connection : List ℕ) → Whole m laws t k r sequence → {A : Type 0} (a : Result A JobFault) → LengthFound m laws t.size (measure m laws t k r (unit m laws)) connection a → RowsAsked m laws t k r n sequence connection a
+  pub rows_asked : (sequence connection : List ℕ) → Whole m laws t k r sequence → {A : Type 0} (a : Result A JobFault) → LengthFound m laws (stair_count t) (measure m laws t k r (unit m laws)) connection a → RowsAsked m laws t k r n sequence connection a
   rows_asked sequence connection whole (Ok a) x = (x, whole)
   rows_asked sequence connection whole (Err f) x = λ ready. x

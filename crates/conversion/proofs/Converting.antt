@@ -21,7 +21,7 @@ use Rattle.runs.specs.Convert.{row, sequence, sequence_from, FreeTable, Rows, Wr
 use Rattle.runs.specs.Sound.{Sound}
 use Rattle.runs.proofs.Conversion.{decided, tells}
 use Rattle.tables.specs.declared.tables.Tables.{Tables}
-use Rattle.tables.specs.Holds.{entry_of, Holds}
+use Rattle.tables.specs.Holds.{stair_count, entry_of, Holds}
 use Rattle.polynomials.specs.declared.fault.JobFault.{JobFault}
 use Rattle.polynomials.specs.declared.fault.JobFault.TheVariants.{NoShape, DependentRows}
 use Rattle.polynomials.specs.Faults.{number_of, place_of}
@@ -52,17 +52,17 @@ module _ (m : FieldMeaning) (laws : FieldLaws m) (cmp : Comparison) (O : OrderLa
   abbrev Step : ℕ → (ℕ → Elem m) → ℕ → Elem m
   Step k = apply F d (Tk m laws cmp n ps k)
 
-  pub map_is : (k : ℕ) → k < n → (f g : ℕ → Elem m) → ((i : ℕ) → i < t.size → f i ≡ g i) → (j : ℕ) → j < t.size → map_of m laws t k f j ≡ Step k g j
-  map_is k kn f g h j p = apply_along F t.size (entry_of m laws t k) (Tk m laws cmp n ps k) (λ j i. H.entries k j i kn) f g h j p ∙ ap (λ (x : ℕ). apply F x (Tk m laws cmp n ps k) g j) H.size
+  pub map_is : (k : ℕ) → k < n → (f g : ℕ → Elem m) → ((i : ℕ) → i < stair_count t → f i ≡ g i) → (j : ℕ) → j < stair_count t → map_of m laws t k f j ≡ Step k g j
+  map_is k kn f g h j p = apply_along F (stair_count t) (entry_of m laws t k) (Tk m laws cmp n ps k) (λ j i. H.entries k j i kn) f g h j p ∙ ap (λ (x : ℕ). apply F x (Tk m laws cmp n ps k) g j) H.size
 
   -- of x_k, counted from 0
 
   module _ (k : ℕ) (kn : k < n) where
-    power_is : (j i : ℕ) → j < t.size → i < t.size → power m laws t k (unit m laws) j i ≡ krylov F (Step k) (basis F 0) j i
-    power_is j i q p = krylov_along F t.size (entry_of m laws t k) (Tk m laws cmp n ps k) (λ j i. H.entries k j i kn) (unit m laws) (unit m laws) (λ i l. refl) j i p ∙ ap (λ (x : ℕ). krylov F (apply F x (Tk m laws cmp n ps k)) (basis F 0) j i) H.size
+    power_is : (j i : ℕ) → j < stair_count t → i < stair_count t → power m laws t k (unit m laws) j i ≡ krylov F (Step k) (basis F 0) j i
+    power_is j i q p = krylov_along F (stair_count t) (entry_of m laws t k) (Tk m laws cmp n ps k) (λ j i. H.entries k j i kn) (unit m laws) (unit m laws) (λ i l. refl) j i p ∙ ap (λ (x : ℕ). krylov F (apply F x (Tk m laws cmp n ps k)) (basis F 0) j i) H.size
 
-    measure_is : (r : List ℕ) (f g : ℕ → Elem m) → ((i : ℕ) → i < t.size → f i ≡ g i) → measure m laws t k r f ≡ sequence_from m laws cmp n ps k r g
-    measure_is r f g h = fun_ext (λ j. measured_along F t.size (entry_of m laws t k) (Tk m laws cmp n ps k) (λ j i. H.entries k j i kn) (read m laws r) f g h j ∙ ap (λ (x : ℕ). measured F x (apply F x (Tk m laws cmp n ps k)) g (read m laws r) j) H.size)
+    measure_is : (r : List ℕ) (f g : ℕ → Elem m) → ((i : ℕ) → i < stair_count t → f i ≡ g i) → measure m laws t k r f ≡ sequence_from m laws cmp n ps k r g
+    measure_is r f g h = fun_ext (λ j. measured_along F (stair_count t) (entry_of m laws t k) (Tk m laws cmp n ps k) (λ j i. H.entries k j i kn) (read m laws r) f g h j ∙ ap (λ (x : ℕ). measured F x (apply F x (Tk m laws cmp n ps k)) g (read m laws r) j) H.size)
 
     sequence_is : (r : List ℕ) → measure m laws t k r (unit m laws) ≡ sequence m laws cmp n ps k r
     sequence_is r = measure_is r (unit m laws) (unit m laws) (λ i l. refl)
@@ -72,48 +72,48 @@ module _ (m : FieldMeaning) (laws : FieldLaws m) (cmp : Comparison) (O : OrderLa
 
     -- 24
 
-    shape_yes : Independent F t.size t.size (power m laws t k (unit m laws)) → HasShape F n L d k
+    shape_yes : Independent F (stair_count t) (stair_count t) (power m laws t k (unit m laws)) → HasShape F n L d k
     shape_yes h =
         (decided m laws cmp O (closed_job n ps) S refl k kn).shape.1
-        (subst (λ (x : ℕ). Independent F x x (krylov F (Step k) (basis F 0))) H.size (independent_along F t.size (power m laws t k (unit m laws)) (krylov F (Step k) (basis F 0)) t.size power_is h))
+        (subst (λ (x : ℕ). Independent F x x (krylov F (Step k) (basis F 0))) H.size (independent_along F (stair_count t) (power m laws t k (unit m laws)) (krylov F (Step k) (basis F 0)) (stair_count t) power_is h))
 
-    shape_no : (f : JobFault) → HasNoShape m laws t.size (power m laws t k (unit m laws)) f → (HasShape F n L d k → ⊥) × ((j : ℕ) × (f ≡ NoShape j) × LeastAlone F n L k j)
+    shape_no : (f : JobFault) → HasNoShape m laws (stair_count t) (power m laws t k (unit m laws)) f → (HasShape F n L d k → ⊥) × ((j : ℕ) × (f ≡ NoShape j) × LeastAlone F n L k j)
     shape_no f x =
         let D = decided m laws cmp O (closed_job n ps) S refl k kn in
-        let least = (D.least x.0).1 (subst (λ (y : ℕ). Degree F y (krylov F (Step k) (basis F 0)) x.0) H.size (degree_along F t.size (power m laws t k (unit m laws)) (krylov F (Step k) (basis F 0)) t.size power_is x.0 x.2 x.3)) in
+        let least = (D.least x.0).1 (subst (λ (y : ℕ). Degree F y (krylov F (Step k) (basis F 0)) x.0) H.size (degree_along F (stair_count t) (power m laws t k (unit m laws)) (krylov F (Step k) (basis F 0)) (stair_count t) power_is x.0 x.2 x.3)) in
         (λ h. omega (arith, x.2, H.size, (D.full x.0 least).0 h), (x.0, x.1, least))
 
     -- 25
 
-    least_is : (r : List ℕ) (l : ℕ) → Least (Recurs F (measure m laws t k r (unit m laws)) (t.size + t.size)) l → Least (Recurs F (sequence m laws cmp n ps k r) (d + d)) l
-    least_is r l x = subst (λ (y : ℕ). Least (Recurs F (sequence m laws cmp n ps k r) (y + y)) l) H.size (subst (λ (s : ℕ → Elem m). Least (Recurs F s (t.size + t.size)) l) (sequence_is r) x)
+    least_is : (r : List ℕ) (l : ℕ) → Least (Recurs F (measure m laws t k r (unit m laws)) (stair_count t + stair_count t)) l → Least (Recurs F (sequence m laws cmp n ps k r) (d + d)) l
+    least_is r l x = subst (λ (y : ℕ). Least (Recurs F (sequence m laws cmp n ps k r) (y + y)) l) H.size (subst (λ (s : ℕ → Elem m). Least (Recurs F s (stair_count t + stair_count t)) l) (sequence_is r) x)
 
-    table_yes : HasShape F n L d k → (r c : List ℕ) → FullLength m laws t.size (measure m laws t k r (unit m laws)) c → FreeTable m laws cmp n ps k r
-    table_yes h r c x = ((tells m laws cmp O (closed_job n ps) S refl k kn).length_decides ((decided m laws cmp O (closed_job n ps) S refl k kn).shape.0 h) (read m laws r) t.size (least_is r t.size x.0)).1 H.size
+    table_yes : HasShape F n L d k → (r c : List ℕ) → FullLength m laws (stair_count t) (measure m laws t k r (unit m laws)) c → FreeTable m laws cmp n ps k r
+    table_yes h r c x = ((tells m laws cmp O (closed_job n ps) S refl k kn).length_decides ((decided m laws cmp O (closed_job n ps) S refl k kn).shape.0 h) (read m laws r) (stair_count t) (least_is r (stair_count t) x.0)).1 H.size
 
-    table_no : HasShape F n L d k → (r : List ℕ) (f : JobFault) → ShortLength m laws t.size (measure m laws t k r (unit m laws)) f → (FreeTable m laws cmp n ps k r → ⊥) × ((l : ℕ) × (f ≡ DependentRows l) × Least (Recurs F (sequence m laws cmp n ps k r) (d + d)) l)
+    table_no : HasShape F n L d k → (r : List ℕ) (f : JobFault) → ShortLength m laws (stair_count t) (measure m laws t k r (unit m laws)) f → (FreeTable m laws cmp n ps k r → ⊥) × ((l : ℕ) × (f ≡ DependentRows l) × Least (Recurs F (sequence m laws cmp n ps k r) (d + d)) l)
     table_no h r f x =
         let least = least_is r x.0 x.3 in
         (λ free. x.2 (((tells m laws cmp O (closed_job n ps) S refl k kn).length_decides ((decided m laws cmp O (closed_job n ps) S refl k kn).shape.0 h) (read m laws r) x.0 least).0 free ∙ sym H.size), (x.0, x.1, least))
 
-    table_free : (r : List ℕ) → FreeTable m laws cmp n ps k r → Independent F t.size t.size (hankel F (measure m laws t k r (unit m laws)))
+    table_free : (r : List ℕ) → FreeTable m laws cmp n ps k r → Independent F (stair_count t) (stair_count t) (hankel F (measure m laws t k r (unit m laws)))
     table_free r h = subst (λ (x : ℕ). Independent F x x (hankel F (measure m laws t k r (unit m laws)))) (sym H.size) (subst (λ (s : ℕ → Elem m). Independent F d d (hankel F s)) (sym (sequence_is r)) h)
 
     -- the rows
 
-    sequence_monic : (r c : List ℕ) → Monic m laws t.size (measure m laws t k r (unit m laws)) c → Monic m laws d (sequence m laws cmp n ps k r) c
-    sequence_monic r c x = subst (λ (y : ℕ). Monic m laws y (sequence m laws cmp n ps k r) c) H.size (subst (λ (s : ℕ → Elem m). Monic m laws t.size s c) (sequence_is r) x)
+    sequence_monic : (r c : List ℕ) → Monic m laws (stair_count t) (measure m laws t k r (unit m laws)) c → Monic m laws d (sequence m laws cmp n ps k r) c
+    sequence_monic r c x = subst (λ (y : ℕ). Monic m laws y (sequence m laws cmp n ps k r) c) H.size (subst (λ (s : ℕ → Elem m). Monic m laws (stair_count t) s c) (sequence_is r) x)
 
     -- row i of the words out
     unfoldable RowAt : List ℕ → List ℕ → List ℕ → ℕ → Type 0
     RowAt r c out i = Row m laws d (hankel F (sequence m laws cmp n ps k r)) c (sequence_from m laws cmp n ps k r (Step i (basis F 0))) i k (λ l. get_or out (i * d + l) 0)
 
-    sequence_row : (r c out : List ℕ) (i : ℕ) → i < n → Row m laws t.size (hankel F (measure m laws t k r (unit m laws))) c (measure m laws t k r (map_of m laws t i (unit m laws))) i k (λ l. get_or out (i * t.size + l) 0) → RowAt r c out i
+    sequence_row : (r c out : List ℕ) (i : ℕ) → i < n → Row m laws (stair_count t) (hankel F (measure m laws t k r (unit m laws))) c (measure m laws t k r (map_of m laws t i (unit m laws))) i k (λ l. get_or out (i * stair_count t + l) 0) → RowAt r c out i
     unfolding RowAt
     sequence_row r c out i p x =
         subst (λ (y : ℕ). Row m laws y (hankel F (sequence m laws cmp n ps k r)) c (sequence_from m laws cmp n ps k r (Step i (basis F 0))) i k (λ l. get_or out (i * y + l) 0)) H.size
-        (subst (λ (b : ℕ → Elem m). Row m laws t.size (hankel F (sequence m laws cmp n ps k r)) c b i k (λ l. get_or out (i * t.size + l) 0)) (side_is r i p)
-        (subst (λ (s : ℕ → Elem m). Row m laws t.size (hankel F s) c (measure m laws t k r (map_of m laws t i (unit m laws))) i k (λ l. get_or out (i * t.size + l) 0)) (sequence_is r) x))
+        (subst (λ (b : ℕ → Elem m). Row m laws (stair_count t) (hankel F (sequence m laws cmp n ps k r)) c b i k (λ l. get_or out (i * stair_count t + l) 0)) (side_is r i p)
+        (subst (λ (s : ℕ → Elem m). Row m laws (stair_count t) (hankel F s) c (measure m laws t k r (map_of m laws t i (unit m laws))) i k (λ l. get_or out (i * stair_count t + l) 0)) (sequence_is r) x))
 
     module _ (r c out : List ℕ) (fits : n * d ≤ length out) (M : Monic m laws d (sequence m laws cmp n ps k r) c) (R : (i : ℕ) → i < n → RowAt r c out i) where
       word_at : (i l : ℕ) → i < n → l < d → row m laws d (take (n * d) out) i l ≡ el m laws (get_or out (i * d + l) 0)
@@ -146,9 +146,9 @@ module _ (m : FieldMeaning) (laws : FieldLaws m) (cmp : Comparison) (O : OrderLa
       written-there : Written m laws cmp n ps (suc k) r (take (n * d) out)
       written-there = record { size = length-take-le (n * d) out fits; elements = all-elems; rows = rows_are }
 
-    written : (r c out : List ℕ) → n * t.size ≤ length out → Monic m laws t.size (measure m laws t k r (unit m laws)) c
-        → ((i : ℕ) → i < n → Row m laws t.size (hankel F (measure m laws t k r (unit m laws))) c (measure m laws t k r (map_of m laws t i (unit m laws))) i k (λ l. get_or out (i * t.size + l) 0))
-        → Written m laws cmp n ps (suc k) r (take (n * t.size) out)
+    written : (r c out : List ℕ) → n * stair_count t ≤ length out → Monic m laws (stair_count t) (measure m laws t k r (unit m laws)) c
+        → ((i : ℕ) → i < n → Row m laws (stair_count t) (hankel F (measure m laws t k r (unit m laws))) c (measure m laws t k r (map_of m laws t i (unit m laws))) i k (λ l. get_or out (i * stair_count t + l) 0))
+        → Written m laws cmp n ps (suc k) r (take (n * stair_count t) out)
     written r c out fits M R =
         subst (λ (y : ℕ). Written m laws cmp n ps (suc k) r (take (n * y) out)) (sym H.size)
         (written-there r c out (subst (λ (y : ℕ). n * y ≤ length out) H.size fits) (sequence_monic r c M) (λ i p. sequence_row r c out i p (R i p)))
@@ -156,12 +156,12 @@ module _ (m : FieldMeaning) (laws : FieldLaws m) (cmp : Comparison) (O : OrderLa
   -- of a call, which counts its variables from 1, for words as many as the tables say
 
   module _ (k : ℕ) (r : List ℕ) (room : ℕ) where
-    pub refused_first : (f : JobFault) → Refused (vector_words_asks m t.size n k r room) (number_of f) 0 (place_of f) → Refused (vector_asks m laws cmp n ps k r room) (number_of f) 0 (place_of f)
+    pub refused_first : (f : JobFault) → Refused (vector_words_asks m (stair_count t) n k r room) (number_of f) 0 (place_of f) → Refused (vector_asks m laws cmp n ps k r room) (number_of f) 0 (place_of f)
     refused_first f x =
         refused_more (vector_words_asks m d n k r room) (shape_ask m laws cmp n ps k ∷ table_ask m laws cmp n ps k r ∷ []) (number_of f) 0 (place_of f)
         (subst (λ (y : ℕ). Refused (vector_words_asks m y n k r room) (number_of f) 0 (place_of f)) H.size x)
 
-    module _ (Y : AllYes (vector_words_asks m t.size n k r room)) where
+    module _ (Y : AllYes (vector_words_asks m (stair_count t) n k r room)) where
       before : pred k ≡ k - 1
       before = omega (arith, Y.0.0)
 
@@ -171,40 +171,40 @@ module _ (m : FieldMeaning) (laws : FieldLaws m) (cmp : Comparison) (O : OrderLa
       in_range : k - 1 < n
       in_range = omega (arith, Y.0.0, Y.0.1)
 
-      pub refused-shape : (f : JobFault) → HasNoShape m laws t.size (power m laws t (k - 1) (unit m laws)) f → Refused (vector_asks m laws cmp n ps k r room) (number_of f) 0 (place_of f)
+      pub refused-shape : (f : JobFault) → HasNoShape m laws (stair_count t) (power m laws t (k - 1) (unit m laws)) f → Refused (vector_asks m laws cmp n ps k r room) (number_of f) 0 (place_of f)
       refused-shape f x =
           let y = first-yes in
           let z = subst (λ (i : ℕ). (HasShape F n L d i → ⊥) × ((j : ℕ) × (f ≡ NoShape j) × LeastAlone F n L i j)) (sym before) (shape_no (k - 1) in_range f x) in
           subst (λ (g : JobFault). Refused (vector_asks m laws cmp n ps k r room) (number_of g) 0 (place_of g)) (sym z.1.1)
           (inr (y.0, inr (y.1.0, inr (y.1.1.0, inr (y.1.1.1.0, inl (z.0, refl, refl, z.1.2))))))
 
-      module _ (I : Independent F t.size t.size (power m laws t (k - 1) (unit m laws))) where
+      module _ (I : Independent F (stair_count t) (stair_count t) (power m laws t (k - 1) (unit m laws))) where
         has-shape : HasShape F n L d (k - 1)
         has-shape = shape_yes (k - 1) in_range I
 
         shape-there : HasShape F n L d (pred k)
         shape-there = subst (HasShape F n L d) (sym before) has-shape
 
-        pub refused-table : (f : JobFault) → ShortLength m laws t.size (measure m laws t (k - 1) r (unit m laws)) f → Refused (vector_asks m laws cmp n ps k r room) (number_of f) 0 (place_of f)
+        pub refused-table : (f : JobFault) → ShortLength m laws (stair_count t) (measure m laws t (k - 1) r (unit m laws)) f → Refused (vector_asks m laws cmp n ps k r room) (number_of f) 0 (place_of f)
         refused-table f x =
             let y = first-yes in
             let z = subst (λ (i : ℕ). (FreeTable m laws cmp n ps i r → ⊥) × ((l : ℕ) × (f ≡ DependentRows l) × Least (Recurs F (sequence m laws cmp n ps i r) (d + d)) l)) (sym before) (table_no (k - 1) in_range has-shape r f x) in
             subst (λ (g : JobFault). Refused (vector_asks m laws cmp n ps k r room) (number_of g) 0 (place_of g)) (sym z.1.1)
             (inr (y.0, inr (y.1.0, inr (y.1.1.0, inr (y.1.1.1.0, inr (shape-there, inl (z.0, refl, refl, z.1.2)))))))
 
-        module _ (c : List ℕ) (W : FullLength m laws t.size (measure m laws t (k - 1) r (unit m laws)) c) where
+        module _ (c : List ℕ) (W : FullLength m laws (stair_count t) (measure m laws t (k - 1) r (unit m laws)) c) where
           free-table : FreeTable m laws cmp n ps (k - 1) r
           free-table = table_yes (k - 1) in_range has-shape r c W
 
-          pub rows-free : Independent F t.size t.size (hankel F (measure m laws t (k - 1) r (unit m laws)))
+          pub rows-free : Independent F (stair_count t) (stair_count t) (hankel F (measure m laws t (k - 1) r (unit m laws)))
           rows-free = table_free (k - 1) in_range r free-table
 
-          pub converted : (out : List ℕ) → length out ≡ room → {A : Type 0} (a : Result A JobFault) → RowsWritten m laws t (k - 1) r n c out a → Converted m laws cmp n ps k r room (take (n * t.size) out) a
+          pub converted : (out : List ℕ) → length out ≡ room → {A : Type 0} (a : Result A JobFault) → RowsWritten m laws t (k - 1) r n c out a → Converted m laws cmp n ps k r room (take (n * stair_count t) out) a
           converted out long (Ok a) R =
               let y = first-yes in
-              let fits : n * t.size ≤ length out = subst (λ (x : ℕ). n * t.size ≤ x) (sym long) Y.1.1.1.0 in
+              let fits : n * stair_count t ≤ length out = subst (λ (x : ℕ). n * stair_count t ≤ x) (sym long) Y.1.1.1.0 in
               let counted : suc (k - 1) ≡ k = omega (arith, Y.0.0) in (
                 (y.0, (y.1.0, (y.1.1.0, (y.1.1.1.0, (shape-there, (subst (λ (i : ℕ). FreeTable m laws cmp n ps i r) (sym before) free-table, tt)))))),
-                subst (λ (i : ℕ). Written m laws cmp n ps i r (take (n * t.size) out)) counted (written (k - 1) in_range r c out fits W.1 R),
+                subst (λ (i : ℕ). Written m laws cmp n ps i r (take (n * stair_count t) out)) counted (written (k - 1) in_range r c out fits W.1 R),
               )
           converted out long (Err f) R = absurd R

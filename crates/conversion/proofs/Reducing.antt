@@ -20,7 +20,7 @@ use Rattle.runs.proofs.Entered.{order_of, closed_passed}
 use Rattle.staircase.specs.declared.rules.Term.{Term}
 use Rattle.polynomials.specs.Held.{terms_of}
 use Rattle.tables.specs.declared.tables.Tables.{Tables}
-use Rattle.tables.specs.Holds.{Holds}
+use Rattle.tables.specs.Holds.{stair_count, Holds}
 use Rattle.conversion.specs.Powers.{Stands, map_of, unit}
 use Rattle.conversion.specs.Values.{value_of}
 use Rattle.conversion.specs.Answer.{closed_job}
@@ -38,16 +38,16 @@ module _ (m : FieldMeaning) (laws : FieldLaws m) (cmp : Comparison) (O : OrderLa
   abbrev p : Poly (Elem m) n
   p = over_elements m laws n (terms_of terms)
 
-  value_is : (j : ℕ) → j < t.size → value_of m laws t n terms j ≡ value F n (before_by cmp n) L p j
-  value_is j l = evaluate_along F t.size n (map_of m laws t) (λ k. apply F (D m laws cmp n ps) (Tk m laws cmp n ps k)) (map_is m laws cmp O n ps S t H) (unit m laws) p j l
+  value_is : (j : ℕ) → j < stair_count t → value_of m laws t n terms j ≡ value F n (before_by cmp n) L p j
+  value_is j l = evaluate_along F (stair_count t) n (map_of m laws t) (λ k. apply F (D m laws cmp n ps) (Tk m laws cmp n ps k)) (map_is m laws cmp O n ps S t H) (unit m laws) p j l
 
-  pub reduced : (sum : List ℕ) → t.size ≤ length sum → Stands m t.size sum (value_of m laws t n terms) → Reduced m laws cmp n ps (terms_of terms) (take t.size sum)
+  pub reduced : (sum : List ℕ) → stair_count t ≤ length sum → Stands m (stair_count t) sum (value_of m laws t n terms) → Reduced m laws cmp n ps (terms_of terms) (take (stair_count t) sum)
   reduced sum long stand = record {
-    size = length-take-le t.size sum long ∙ H.size;
-    elements = front_elems m laws t.size sum (value_of m laws t n terms) long stand;
+    size = length-take-le (stair_count t) sum long ∙ H.size;
+    elements = front_elems m laws (stair_count t) sum (value_of m laws t n terms) long stand;
     congruent = subst (Congruent F n L p)
-        (combination_ext F (stair_at m laws cmp n ps) (D m laws cmp n ps) (value F n (before_by cmp n) L p) (read m laws (take t.size sum)) (λ i l.
-        let b : i < t.size = omega (arith, H.size) in
-        sym (front_reads m laws t.size t.size sum (value_of m laws t n terms) (omega arith) long stand i b ∙ value_is i b)))
+        (combination_ext F (stair_at m laws cmp n ps) (D m laws cmp n ps) (value F n (before_by cmp n) L p) (read m laws (take (stair_count t) sum)) (λ i l.
+        let b : i < stair_count t = omega (arith, H.size) in
+        sym (front_reads m laws (stair_count t) (stair_count t) sum (value_of m laws t n terms) (omega arith) long stand i b ∙ value_is i b)))
         ((congruences F n (before_by cmp n) (order_of m laws cmp O (closed_job n ps) S) L (closed_passed m laws cmp O (closed_job n ps) S refl)).polynomial p);
   }

@@ -1,15 +1,15 @@
 -- The rows of a table, taken and solved.
-use Rattle.std.proofs.Common.{◌≡◌, ℕ, ◌<◌, T, List, length, get_or, sym, ap, ◌∙◌, subst, arith}
+use Rattle.std.proofs.Common.{◌≡◌, ℕ, ◌<◌, T, List, Ok, Err, Result, length, get_or, sym, ap, ◌∙◌, subst, arith}
 use Rattle.field.specs.Meaning.{FieldMeaning, FieldLaws}
 use Rattle.algebra.specs.Vector.{Independent}
 use Rattle.algebra.specs.Elements.{Elem, field_of, el}
 use Rattle.algebra.proofs.Sums as sums
 use Rattle.algebra.proofs.Span.{no_combination}
 use Rattle.linear.specs.Elimination.{Table, Eliminated, Solved}
-use Rattle.linear.specs.declared.elimination.Dependence.{Dependence}
-use Rattle.linear.specs.declared.elimination.Dependence.TheVariants.{Nowhere, At, Refused}
-use Rattle.linear.specs.declared.elimination.Solution.{Solution}
-use Rattle.linear.specs.declared.elimination.Solution.TheVariants.{Found, Outside, Refused as Unasked}
+use Rattle.linear.specs.declared.elimination.EliminateFault.{EliminateFault}
+use Rattle.linear.specs.declared.elimination.EliminateFault.TheVariants.{NoRoom, Depends as First}
+use Rattle.linear.specs.declared.elimination.SolveFault.{SolveFault}
+use Rattle.linear.specs.declared.elimination.SolveFault.TheVariants.{NoRoom as Unasked, Outside}
 use Rattle.linear.proofs.Reading.{read_at}
 use Rattle.conversion.specs.Powers.{Stands}
 use Rattle.conversion.specs.Rows.{Solves, Row}
@@ -17,22 +17,22 @@ use Rattle.conversion.proofs.Standing.{stands_read}
 
 module _ (m : FieldMeaning) (laws : FieldLaws m) (d : ℕ) (v : ℕ → ℕ → Elem m) where
   -- independent rows are all taken
-  pub all_taken : (table pivots row : List ℕ) (a : Dependence) → Independent (field_of m laws) d d v → Eliminated m laws d d v table pivots row a → Table m laws d d v table pivots
-  all_taken table pivots row Nowhere h x = x.1
-  all_taken table pivots row (At j) h x = absurd (omega (arith, x.0, no_combination (field_of m laws) d d j v h x.1.0.0 x.1.0.1))
-  all_taken table pivots row Refused h x = absurd x
+  pub all_taken : {A : Type 0} (table pivots row : List ℕ) (a : Result A EliminateFault) → Independent (field_of m laws) d d v → Eliminated m laws d d v table pivots row a → Table m laws d d v table pivots
+  all_taken table pivots row (Ok _) h x = x.1
+  all_taken table pivots row (Err (First j)) h x = absurd (omega (arith, x.0, no_combination (field_of m laws) d d j v h x.1.0.0 x.1.0.1))
+  all_taken table pivots row (Err NoRoom) h x = absurd x
 
   -- and then every right-hand side is solved
-  pub solved_row : (b : ℕ → Elem m) (side out : List ℕ) (a : Solution) → length side ≡ d → length out ≡ d → Stands m d side b → Solved m laws (length side) d v side out a → Solves m laws d v b (λ l. get_or out l 0)
-  solved_row b side out Found e e' s x = record {
+  pub solved_row : {A : Type 0} (b : ℕ → Elem m) (side out : List ℕ) (a : Result A SolveFault) → length side ≡ d → length out ≡ d → Stands m d side b → Solved m laws (length side) d v side out a → Solves m laws d v b (λ l. get_or out l 0)
+  solved_row b side out (Ok _) e e' s x = record {
     elements = λ l h. x.0 l (omega arith);
     combines = λ j h.
         sym (stands_read m laws d side b (omega arith) s j h)
         ∙ x.1 j (omega arith)
         ∙ sums.sum_ext (field_of m laws) d _ _ (λ l p. ap (λ (y : Elem m). (field_of m laws).◌⊗◌ y (v l j)) (read_at m laws out l (omega arith)));
   }
-  solved_row b side out Outside e e' s x = absurd (x.0 (sym e))
-  solved_row b side out Unasked e e' s x = absurd x
+  solved_row b side out (Err Outside) e e' s x = absurd (x.0 (sym e))
+  solved_row b side out (Err Unasked) e e' s x = absurd x
 
   -- a row by other words that are the same
   pub row_along : (c : List ℕ) (b : ℕ → Elem m) (i k : ℕ) (w u : ℕ → ℕ) → ((l : ℕ) → l < d → u l ≡ w l) → Row m laws d v c b i k w → Row m laws d v c b i k u

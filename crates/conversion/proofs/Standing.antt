@@ -9,7 +9,7 @@ use Rattle.algebra.proofs.Maps.{krylov_more}
 use Rattle.linear.specs.Words.{DotOf}
 use Rattle.linear.proofs.WordLists.{read_word, read_is}
 use Rattle.tables.specs.declared.tables.Tables.{Tables}
-use Rattle.tables.specs.Holds.{entry_of, Stepped}
+use Rattle.tables.specs.Holds.{stair_count, entry_of, Stepped}
 use Rattle.conversion.specs.Powers.{Stands, StandsAt, map_of, power, measure}
 
 module _ (m : FieldMeaning) (laws : FieldLaws m) where
@@ -26,11 +26,11 @@ module _ (m : FieldMeaning) (laws : FieldLaws m) where
   stands_read d xs f l s j h = read_is m laws xs j (f j) (omega arith) (s j h)
 
   -- a step of words that stand for f writes those of the matrix at f
-  pub steps : (t : Tables) (k : ℕ) (v out : List ℕ) (f : ℕ → Elem m) → t.size ≤ length v → t.size ≤ length out → Stepped m t k v out → Stands m t.size v f → Stands m t.size out (map_of m laws t k f)
+  pub steps : (t : Tables) (k : ℕ) (v out : List ℕ) (f : ℕ → Elem m) → stair_count t ≤ length v → stair_count t ≤ length out → Stepped m t k v out → Stands m (stair_count t) v f → Stands m (stair_count t) out (map_of m laws t k f)
   steps t k v out f lv lo w s j h =
-      let e : T (m.elem (get_or out j 0)) = subst (λ u. T (m.elem u)) (get_or-take t.size out j 0 h) (w.elements j (omega (arith, length-take-le t.size out lo))) in
+      let e : T (m.elem (get_or out j 0)) = subst (λ u. T (m.elem u)) (get_or-take (stair_count t) out j 0 h) (w.elements j (omega (arith, length-take-le (stair_count t) out lo))) in
       sym (read_word m laws out j (omega arith) e)
-      ∙ ap (λ (x : Elem m). x.0) (w.applied laws j h ∙ sums.sum_ext (field_of m laws) t.size _ _ (λ i p. ap (λ x. (field_of m laws).◌⊗◌ (entry_of m laws t k j i) x) (stands_read t.size v f lv s i p)))
+      ∙ ap (λ (x : Elem m). x.0) (w.applied laws j h ∙ sums.sum_ext (field_of m laws) (stair_count t) _ _ (λ i p. ap (λ x. (field_of m laws).◌⊗◌ (entry_of m laws t k j i) x) (stands_read (stair_count t) v f lv s i p)))
 
   -- a dot product with words that stand for f
   pub dots : (d : ℕ) (r v : List ℕ) (w : ℕ) (f : ℕ → Elem m) → length r ≡ d → d ≤ length v → DotOf m r v w → Stands m d v f → w ≡ (dot (field_of m laws) d (read m laws r) f).0
@@ -50,4 +50,4 @@ module _ (m : FieldMeaning) (laws : FieldLaws m) where
 
   -- the words measured from a power on are those further on
   pub measure_more : (t : Tables) (k : ℕ) (r : List ℕ) (f : ℕ → Elem m) (l j : ℕ) → measure m laws t k r (power m laws t k f l) j ≡ measure m laws t k r f (l + j)
-  measure_more t k r f l j = ap (dot (field_of m laws) t.size (read m laws r)) (krylov_more (field_of m laws) (map_of m laws t k) f l j)
+  measure_more t k r f l j = ap (dot (field_of m laws) (stair_count t) (read m laws r)) (krylov_more (field_of m laws) (map_of m laws t k) f l j)

@@ -10,7 +10,7 @@ use Rattle.field.specs.Meaning.{FieldMeaning, FieldLaws}
 use Rattle.algebra.specs.Vector.{Independent}
 use Rattle.algebra.specs.Elements.{field_of}
 use Rattle.linear.specs.Hankel.{hankel}
-use Rattle.tables.specs.Holds.{Ready}
+use Rattle.tables.specs.Holds.{stair_count, Ready}
 use Rattle.tables.specs.declared.tables.Tables.{Tables}
 use Rattle.polynomials.specs.declared.fault.JobFault.{JobFault}
 use Rattle.conversion.specs.Powers.{Stands, map_of, unit, power, measure}
@@ -19,20 +19,20 @@ use Rattle.conversion.specs.Rows.{Row}
 
 module _ (m : FieldMeaning) (laws : FieldLaws m) (t : Tables) (k : ℕ) (r : List ℕ) where
   pub record Half (sequence vector : List ℕ) : Type 0 where
-    pub measured : Stands m t.size sequence (measure m laws t k r (unit m laws))
-    pub next : Stands m t.size vector (power m laws t k (unit m laws) t.size)
+    pub measured : Stands m (stair_count t) sequence (measure m laws t k r (unit m laws))
+    pub next : Stands m (stair_count t) vector (power m laws t k (unit m laws) (stair_count t))
 
   abbrev pub Whole : List ℕ → Type 0
-  Whole sequence = Stands m (t.size + t.size) sequence (measure m laws t k r (unit m laws))
+  Whole sequence = Stands m (stair_count t + stair_count t) sequence (measure m laws t k r (unit m laws))
 
   abbrev pub ShapeAsked : {A : Type 0} → ℕ → List ℕ → List ℕ → Result A JobFault → Type 0
-  ShapeAsked n sequence vector (Ok a) = Independent (field_of m laws) t.size t.size (power m laws t k (unit m laws)) × Half sequence vector
-  ShapeAsked n sequence vector (Err f) = Ready t n → HasNoShape m laws t.size (power m laws t k (unit m laws)) f
+  ShapeAsked n sequence vector (Ok a) = Independent (field_of m laws) (stair_count t) (stair_count t) (power m laws t k (unit m laws)) × Half sequence vector
+  ShapeAsked n sequence vector (Err f) = Ready t n → HasNoShape m laws (stair_count t) (power m laws t k (unit m laws)) f
 
   abbrev pub RowsAsked : {A : Type 0} → ℕ → List ℕ → List ℕ → Result A JobFault → Type 0
-  RowsAsked n sequence connection (Ok a) = FullLength m laws t.size (measure m laws t k r (unit m laws)) connection × Whole sequence
-  RowsAsked n sequence connection (Err f) = Ready t n → ShortLength m laws t.size (measure m laws t k r (unit m laws)) f
+  RowsAsked n sequence connection (Ok a) = FullLength m laws (stair_count t) (measure m laws t k r (unit m laws)) connection × Whole sequence
+  RowsAsked n sequence connection (Err f) = Ready t n → ShortLength m laws (stair_count t) (measure m laws t k r (unit m laws)) f
 
   abbrev pub RowsWritten : {A : Type 0} → ℕ → List ℕ → List ℕ → Result A JobFault → Type 0
-  RowsWritten n connection out (Ok a) = (i : ℕ) → i < n → Row m laws t.size (hankel (field_of m laws) (measure m laws t k r (unit m laws))) connection (measure m laws t k r (map_of m laws t i (unit m laws))) i k (λ l. slice_index out (i * t.size + l))
+  RowsWritten n connection out (Ok a) = (i : ℕ) → i < n → Row m laws (stair_count t) (hankel (field_of m laws) (measure m laws t k r (unit m laws))) connection (measure m laws t k r (map_of m laws t i (unit m laws))) i k (λ l. slice_index out (i * stair_count t + l))
   RowsWritten n connection out (Err f) = ⊥

@@ -13,7 +13,7 @@ use Rattle.field.specs.Meaning.{FieldMeaning, FieldLaws}
 use Rattle.algebra.specs.Vector.{basis, apply, krylov}
 use Rattle.algebra.specs.Elements.{Elem, Elems, field_of, read}
 use Rattle.linear.specs.Hankel.{measured}
-use Rattle.tables.specs.Holds.{entry_of}
+use Rattle.tables.specs.Holds.{stair_count, entry_of}
 use Rattle.tables.specs.declared.tables.Tables.{Tables}
 
 abbrev pub width : ℕ
@@ -31,14 +31,14 @@ module _ (m : FieldMeaning) (laws : FieldLaws m) where
 
   module _ (t : Tables) (k : ℕ) where
     abbrev pub map_of : (ℕ → Elem m) → ℕ → Elem m
-    map_of = apply (field_of m laws) t.size (entry_of m laws t k)
+    map_of = apply (field_of m laws) (stair_count t) (entry_of m laws t k)
 
     abbrev pub power : (ℕ → Elem m) → ℕ → ℕ → Elem m
     power = krylov (field_of m laws) map_of
 
     abbrev pub measure : List ℕ → (ℕ → Elem m) → ℕ → Elem m
-    measure r f = measured (field_of m laws) t.size map_of f (read m laws r)
+    measure r f = measured (field_of m laws) (stair_count t) map_of f (read m laws r)
 
     pub record Vectors (vectors : List ℕ) : Type 0 where
       pub elements : Elems m vectors
-      pub stand : (j : ℕ) → j < t.size → StandsAt m t.size (j * width) vectors (power unit j)
+      pub stand : (j : ℕ) → j < stair_count t → StandsAt m (stair_count t) (j * width) vectors (power unit j)

@@ -5,7 +5,7 @@ ghost use Rattle.field.specs.Meaning.{FieldLaws};
 ghost use Rattle.order.specs.Laws.{Comparison, OrderLaws};
 ghost use Rattle.runs.specs.Job.{Term};
 ghost use Rattle.runs.specs.Sound.{Sound};
-ghost use Rattle.tables.specs.Holds.{Holds};
+ghost use Rattle.tables.specs.Holds.{stair_count, Holds};
 ghost use Rattle.conversion.specs.Answer.{closed_job, Converted};
 
 use crate::powers::{Conversion, Matrices};
@@ -27,8 +27,8 @@ pub fn convert<F: Field>(
     out: &mut [u32],
 ) -> Result<(), JobFault>
     ensures refused_as_was { OnErr result (out.new ≡ out.old) }
-    ensures rest_unchanged { drop (n * tables.now.size) out.new ≡ drop (n * tables.now.size) out.old }
-    ensures answered { (laws : FieldLaws (F.Field.meaning field.now)) (cmp : Comparison) (ps : List (List Term)) → OrderLaws cmp → Sound (F.Field.meaning field.now) laws cmp (closed_job n ps) → Holds (F.Field.meaning field.now) laws cmp n ps tables.now → Converted (F.Field.meaning field.now) laws cmp n ps k r.now (length out.old) (take (n * tables.now.size) out.new) result }
+    ensures rest_unchanged { drop (n * stair_count tables.now) out.new ≡ drop (n * stair_count tables.now) out.old }
+    ensures answered { (laws : FieldLaws (F.Field.meaning field.now)) (cmp : Comparison) (ps : List (List Term)) → OrderLaws cmp → Sound (F.Field.meaning field.now) laws cmp (closed_job n ps) → Holds (F.Field.meaning field.now) laws cmp n ps tables.now → Converted (F.Field.meaning field.now) laws cmp n ps k r.now (length out.old) (take (n * stair_count tables.now) out.new) result }
 {
     if n > Monomial::VARIABLES {
         return Err(JobFault::Variables);

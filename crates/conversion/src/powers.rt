@@ -4,29 +4,16 @@ ghost use Rattle.std.specs.Prelude.{◌≡◌, ℕ, ◌<◌, ◌≤◌, OnOk, On
 ghost use Rattle.field.specs.Meaning.{FieldLaws};
 ghost use Rattle.order.specs.Monomials.{variables};
 ghost use Rattle.algebra.specs.Elements.{Elem};
-ghost use Rattle.polynomials.specs.declared.fault.JobFault.TheVariants.{NotClosed};
-ghost use Rattle.tables.specs.Holds.{Ready};
+ghost use Rattle.tables.specs.Holds.{stair_count, Ready};
 ghost use Rattle.conversion.specs.Powers.{width, Stands, map_of, unit, power, measure, Vectors};
 
 use field::Field;
 use linear::dot::dot;
-use polynomials::JobFault;
+use linear::step::Misfit;
 use tables::Tables;
 
 // How many words a vector is lent.
 pub(crate) const WIDTH: usize = 48;
-
-// The tables have no such step, so they are none of a closed job.
-#[derive(Clone, Copy, PartialEq, Eq, Debug)]
-pub(crate) struct Misfit;
-
-impl From<Misfit> for JobFault {
-    ghost from_gives = { λ _ f. f ≡ NotClosed };
-
-    fn from(_misfit: Misfit) -> JobFault {
-        JobFault::NotClosed
-    }
-}
 
 // A vector, and room for the next one.
 #[derive(Drop)]
@@ -66,14 +53,10 @@ impl<'a, F: Field> Matrices<'a, F> {
     pub(crate) fn advance(&self, k: usize, walk: &mut Walk) -> Result<(), Misfit>
         requires { k < self.now.n }
         ensures fits { OnErr result (¬ Ready self.now.tables.now self.now.n) }
-        ensures advanced { let m = F.Field.meaning self.now.field.now in let t = self.now.tables.now in OnOk result ((laws : FieldLaws m) (f : ℕ → Elem m) → Stands m t.size walk.old.vector f → Stands m t.size walk.new.vector (map_of m laws t k f)) }
+        ensures advanced { let m = F.Field.meaning self.now.field.now in let t = self.now.tables.now in OnOk result ((laws : FieldLaws m) (f : ℕ → Elem m) → Stands m (stair_count t) walk.old.vector f → Stands m (stair_count t) walk.new.vector (map_of m laws t k f)) }
     {
-        if !self
-            .tables
-            .step(self.field, k, &walk.vector, &mut walk.next)
-        {
-            return Err(Misfit);
-        }
+        self.tables
+            .step(self.field, k, &walk.vector, &mut walk.next)?;
         walk.vector = walk.next;
         Ok(())
     }
@@ -86,7 +69,7 @@ pub(crate) struct Conversion<'a, F> {
     pub(crate) k: usize,
     pub(crate) r: &'a [u32],
     ghost within: { k < matrices.n },
-    ghost exact: { length r.now ≡ matrices.tables.now.size },
+    ghost exact: { length r.now ≡ stair_count matrices.tables.now },
 }
 
 impl<'a, F: Field> Conversion<'a, F> {
@@ -94,10 +77,10 @@ impl<'a, F: Field> Conversion<'a, F> {
     // `out`.
     pub(crate) fn measure(&self, walk: &mut Walk, out: &mut [u32]) -> Result<(), Misfit>
         ensures fits { OnErr result (¬ Ready self.now.matrices.tables.now self.now.matrices.n) }
-        ensures measured { let m = F.Field.meaning self.now.matrices.field.now in let t = self.now.matrices.tables.now in OnOk result ((laws : FieldLaws m) (f : ℕ → Elem m) → Stands m t.size walk.old.vector f → Stands m (length out.old) out.new (measure m laws t self.now.k self.now.r.now f)) }
+        ensures measured { let m = F.Field.meaning self.now.matrices.field.now in let t = self.now.matrices.tables.now in OnOk result ((laws : FieldLaws m) (f : ℕ → Elem m) → Stands m (stair_count t) walk.old.vector f → Stands m (length out.old) out.new (measure m laws t self.now.k self.now.r.now f)) }
     {
-        for j in 0..out.len() {
-            out[j] = dot(self.matrices.field, self.r, &walk.vector);
+        for word in out.iter_mut() {
+            *word = dot(self.matrices.field, self.r, &walk.vector);
             self.matrices.advance(self.k, walk)?;
         }
         Ok(())
@@ -114,12 +97,13 @@ impl<'a, F: Field> Conversion<'a, F> {
     ) -> Result<(), Misfit>
         ensures fits { OnErr result (¬ Ready self.now.matrices.tables.now self.now.matrices.n) }
         ensures vectors { let m = F.Field.meaning self.now.matrices.field.now in OnOk result ((laws : FieldLaws m) → Vectors m laws self.now.matrices.tables.now self.now.k vectors.new) }
-        ensures words { let m = F.Field.meaning self.now.matrices.field.now in let t = self.now.matrices.tables.now in OnOk result ((laws : FieldLaws m) → Stands m t.size words.new (measure m laws t self.now.k self.now.r.now (unit m laws))) }
-        ensures next { let m = F.Field.meaning self.now.matrices.field.now in let t = self.now.matrices.tables.now in OnOk result ((laws : FieldLaws m) → Stands m t.size walk.new.vector (power m laws t self.now.k (unit m laws) t.size)) }
+        ensures words { let m = F.Field.meaning self.now.matrices.field.now in let t = self.now.matrices.tables.now in OnOk result ((laws : FieldLaws m) → Stands m (stair_count t) words.new (measure m laws t self.now.k self.now.r.now (unit m laws))) }
+        ensures next { let m = F.Field.meaning self.now.matrices.field.now in let t = self.now.matrices.tables.now in OnOk result ((laws : FieldLaws m) → Stands m (stair_count t) walk.new.vector (power m laws t self.now.k (unit m laws) (stair_count t))) }
     {
         let d = self.matrices.tables.size();
         walk.start(self.matrices.field);
         vectors.fill(self.matrices.field.zero());
+        // By index: of words that were written through chunks_mut a proof knows only how many they are.
         for j in 0..d {
             vectors[j * WIDTH..j * WIDTH + d].copy_from_slice(&walk.vector[0..d]);
             words[j] = dot(self.matrices.field, self.r, &walk.vector);

@@ -4,12 +4,13 @@ ghost use Rattle.std.specs.Prelude.{◌≡◌, ℕ, suc, ◌+◌, ◌<◌, T, le
 ghost use Rattle.field.specs.Meaning.{FieldLaws};
 ghost use Rattle.algebra.specs.Elements.{Elem};
 ghost use Rattle.polynomials.specs.Asked.{Asked};
+ghost use Rattle.tables.specs.Holds.{stair_count};
 ghost use Rattle.conversion.specs.Powers.{Stands, unit, power, Vectors};
 ghost use Rattle.conversion.specs.Asked.{vector_words_asks, ShapeFound, LengthFound};
 
 use crate::powers::{Conversion, Matrices, WIDTH};
 use field::Field;
-use linear::elimination::{Dependence, Family, eliminate};
+use linear::elimination::{EliminateFault, Family, eliminate};
 use linear::recurrence::recurrence_length;
 use polynomials::JobFault;
 
@@ -28,7 +29,7 @@ pub(crate) fn ask_vector<F: Field>(
     r: &[u32],
     room: usize,
 ) -> Result<(), JobFault>
-    ensures { Asked 0 (vector_words_asks (F.Field.meaning matrices.now.field.now) matrices.now.tables.now.size matrices.now.n k r.now room) result }
+    ensures { Asked 0 (vector_words_asks (F.Field.meaning matrices.now.field.now) (stair_count matrices.now.tables.now) matrices.now.n k r.now room) result }
 {
     let d = matrices.tables.size();
     if !(1..=matrices.n).contains(&k) {
@@ -54,7 +55,7 @@ pub(crate) fn ask_independent<F: Field>(
     pivots: &mut [usize; 48],
     row: &mut [u32; 96],
 ) -> Result<(), JobFault>
-    ensures { let m = F.Field.meaning by.now.matrices.field.now in let t = by.now.matrices.tables.now in (laws : FieldLaws m) → Vectors m laws t by.now.k vectors.now → ShapeFound m laws t.size (power m laws t by.now.k (unit m laws)) result }
+    ensures { let m = F.Field.meaning by.now.matrices.field.now in let t = by.now.matrices.tables.now in (laws : FieldLaws m) → Vectors m laws t by.now.k vectors.now → ShapeFound m laws (stair_count t) (power m laws t by.now.k (unit m laws)) result }
 {
     let d = by.matrices.tables.size();
     let family = Family {
@@ -64,9 +65,9 @@ pub(crate) fn ask_independent<F: Field>(
         count: d,
     };
     match eliminate(by.matrices.field, family, table, pivots, row) {
-        Dependence::Nowhere => Ok(()),
-        Dependence::At(j) => Err(JobFault::NoShape(j)),
-        Dependence::Refused => Err(JobFault::NotClosed),
+        Ok(()) => Ok(()),
+        Err(EliminateFault::Depends(j)) => Err(JobFault::NoShape(j)),
+        Err(EliminateFault::NoRoom) => Err(JobFault::NotClosed),
     }
 }
 
@@ -79,7 +80,7 @@ pub(crate) fn ask_length<F: Field>(
     previous: &mut [u32; 97],
     spare: &mut [u32; 97],
 ) -> Result<(), JobFault>
-    ensures { let m = F.Field.meaning matrices.now.field.now in let d = matrices.now.tables.now.size in (laws : FieldLaws m) (s : ℕ → Elem m) → Stands m (d + d) sequence.now s → LengthFound m laws d s connection.new result }
+    ensures { let m = F.Field.meaning matrices.now.field.now in let d = stair_count matrices.now.tables.now in (laws : FieldLaws m) (s : ℕ → Elem m) → Stands m (d + d) sequence.now s → LengthFound m laws d s connection.new result }
 {
     let d = matrices.tables.size();
     let sequence = &sequence[0..d + d];

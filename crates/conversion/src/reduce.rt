@@ -6,7 +6,7 @@ ghost use Rattle.order.specs.Laws.{Comparison, OrderLaws};
 ghost use Rattle.runs.specs.Job as job;
 ghost use Rattle.runs.specs.Sound.{Sound};
 ghost use Rattle.polynomials.specs.Held.{terms_of};
-ghost use Rattle.tables.specs.Holds.{Holds};
+ghost use Rattle.tables.specs.Holds.{stair_count, Holds};
 ghost use Rattle.conversion.specs.Answer.{closed_job, Reduces};
 
 use crate::powers::Matrices;
@@ -34,8 +34,8 @@ pub fn reduce<F: Field>(
     out: &mut [u32],
 ) -> Result<(), JobFault>
     ensures refused_as_was { OnErr result (out.new ≡ out.old) }
-    ensures rest_unchanged { drop tables.now.size out.new ≡ drop tables.now.size out.old }
-    ensures answered { (laws : FieldLaws (F.Field.meaning field.now)) (cmp : Comparison) (ps : List (List job.Term)) → OrderLaws cmp → Sound (F.Field.meaning field.now) laws cmp (closed_job n ps) → Holds (F.Field.meaning field.now) laws cmp n ps tables.now → Reduces (F.Field.meaning field.now) laws cmp n ps (terms_of terms.now) (length out.old) (take tables.now.size out.new) result }
+    ensures rest_unchanged { drop (stair_count tables.now) out.new ≡ drop (stair_count tables.now) out.old }
+    ensures answered { (laws : FieldLaws (F.Field.meaning field.now)) (cmp : Comparison) (ps : List (List job.Term)) → OrderLaws cmp → Sound (F.Field.meaning field.now) laws cmp (closed_job n ps) → Holds (F.Field.meaning field.now) laws cmp n ps tables.now → Reduces (F.Field.meaning field.now) laws cmp n ps (terms_of terms.now) (length out.old) (take (stair_count tables.now) out.new) result }
 {
     let d = tables.size();
     if out.len() < d {

@@ -6,13 +6,14 @@ ghost use Rattle.algebra.specs.Vector.{Independent};
 ghost use Rattle.algebra.specs.Elements.{Elem, field_of};
 ghost use Rattle.linear.specs.Hankel.{hankel};
 ghost use Rattle.linear.specs.Elimination as elimination;
-ghost use Rattle.tables.specs.Holds.{Ready};
+ghost use Rattle.tables.specs.Holds.{stair_count, Ready};
 ghost use Rattle.conversion.specs.Powers.{width, Stands, StandsAt, map_of, unit, measure};
 ghost use Rattle.conversion.specs.Rows.{Row};
 
-use crate::powers::{Conversion, Misfit, WIDTH, Walk};
+use crate::powers::{Conversion, WIDTH, Walk};
 use field::Field;
 use linear::elimination::{Family, eliminate, solve};
+use linear::step::Misfit;
 
 // The first words of the polynomial after its word 0, backwards, into all of `out`.
 fn put_backwards(polynomial: &[u32], out: &mut [u32])
@@ -42,9 +43,10 @@ impl<'a, F: Field> Conversion<'a, F> {
     // Those of each variable, WIDTH words after those of the one before.
     pub(crate) fn right_sides(&self, walk: &mut Walk, sides: &mut [u32; 192]) -> Result<(), Misfit>
         ensures fits { OnErr result (¬ Ready self.now.matrices.tables.now self.now.matrices.n) }
-        ensures measured { let m = F.Field.meaning self.now.matrices.field.now in let t = self.now.matrices.tables.now in OnOk result ((laws : FieldLaws m) (i : ℕ) → i < self.now.matrices.n → i ≢ self.now.k → StandsAt m t.size (i * width) sides.new (measure m laws t self.now.k self.now.r.now (map_of m laws t i (unit m laws)))) }
+        ensures measured { let m = F.Field.meaning self.now.matrices.field.now in let t = self.now.matrices.tables.now in OnOk result ((laws : FieldLaws m) (i : ℕ) → i < self.now.matrices.n → i ≢ self.now.k → StandsAt m (stair_count t) (i * width) sides.new (measure m laws t self.now.k self.now.r.now (map_of m laws t i (unit m laws)))) }
     {
         let d = self.matrices.tables.size();
+        // By index: of words that were written through chunks_mut a proof knows only how many they are.
         for i in 0..self.matrices.n {
             self.right_side(i, walk, &mut sides[i * WIDTH..i * WIDTH + d])?;
         }
@@ -60,7 +62,7 @@ impl<'a, F: Field> Conversion<'a, F> {
         pivots: &mut [usize; 48],
         row: &mut [u32; 96],
     )
-        ensures { let m = F.Field.meaning self.now.matrices.field.now in let d = self.now.matrices.tables.now.size in (laws : FieldLaws m) (s : ℕ → Elem m) → Stands m (d + d) sequence.now s → Independent (field_of m laws) d d (hankel (field_of m laws) s) → elimination.Table m laws d d (elimination.rows m laws 1 (take (d + d) sequence.now)) table.new pivots.new }
+        ensures { let m = F.Field.meaning self.now.matrices.field.now in let d = stair_count self.now.matrices.tables.now in (laws : FieldLaws m) (s : ℕ → Elem m) → Stands m (d + d) sequence.now s → Independent (field_of m laws) d d (hankel (field_of m laws) s) → elimination.Table m laws d d (elimination.rows m laws 1 (take (d + d) sequence.now)) table.new pivots.new }
     {
         let d = self.matrices.tables.size();
         let family = Family {
@@ -107,11 +109,12 @@ impl<'a, F: Field> Conversion<'a, F> {
         row: &mut [u32; 96],
         out: &mut [u32],
     )
-        requires { self.now.matrices.n * self.now.matrices.tables.now.size ≤ length out.old }
-        ensures rest_unchanged { let size = self.now.matrices.n * self.now.matrices.tables.now.size in drop size out.new ≡ drop size out.old }
-        ensures rows { let m = F.Field.meaning self.now.matrices.field.now in let d = self.now.matrices.tables.now.size in (laws : FieldLaws m) (v : ℕ → ℕ → Elem m) (b : ℕ → ℕ → Elem m) → elimination.Table m laws d d v table.now pivots.now → ((i : ℕ) → i < self.now.matrices.n → i ≢ self.now.k → StandsAt m d (i * width) sides.now (b i)) → (i : ℕ) → i < self.now.matrices.n → Row m laws d v connection.now (b i) i self.now.k (λ l. slice_index out.new (i * d + l)) }
+        requires { self.now.matrices.n * stair_count self.now.matrices.tables.now ≤ length out.old }
+        ensures rest_unchanged { let size = self.now.matrices.n * stair_count self.now.matrices.tables.now in drop size out.new ≡ drop size out.old }
+        ensures rows { let m = F.Field.meaning self.now.matrices.field.now in let d = stair_count self.now.matrices.tables.now in (laws : FieldLaws m) (v : ℕ → ℕ → Elem m) (b : ℕ → ℕ → Elem m) → elimination.Table m laws d d v table.now pivots.now → ((i : ℕ) → i < self.now.matrices.n → i ≢ self.now.k → StandsAt m d (i * width) sides.now (b i)) → (i : ℕ) → i < self.now.matrices.n → Row m laws d v connection.now (b i) i self.now.k (λ l. slice_index out.new (i * d + l)) }
     {
         let d = self.matrices.tables.size();
+        // By index: of words that were written through chunks_mut a proof knows only how many they are.
         for i in 0..self.matrices.n {
             self.write_row(
                 i,

@@ -2,13 +2,14 @@
 ghost use Rattle.std.specs.Prelude.{◌≡◌, ℕ, ◌<◌, OnOk, OnErr, IfOk};
 ghost use Rattle.field.specs.Meaning.{FieldLaws};
 ghost use Rattle.algebra.specs.Elements.{Elem, field_of, el};
-ghost use Rattle.tables.specs.Holds.{Ready};
+ghost use Rattle.tables.specs.Holds.{stair_count, Ready};
 ghost use Rattle.conversion.specs.Powers.{Stands, unit, power};
 ghost use Rattle.conversion.specs.Values.{acts, value_of};
 
-use crate::powers::{Matrices, Misfit, Walk};
+use crate::powers::{Matrices, Walk};
 use field::Field;
 use linear::multiple::add_multiple;
+use linear::step::Misfit;
 use order::Monomial;
 use polynomials::Term;
 
@@ -17,7 +18,7 @@ impl<'a, F: Field> Matrices<'a, F> {
     fn raise(&self, k: usize, e: u8, walk: &mut Walk) -> Result<(), Misfit>
         requires { k < self.now.n }
         ensures fits { OnErr result (¬ Ready self.now.tables.now self.now.n) }
-        ensures raised { let m = F.Field.meaning self.now.field.now in let t = self.now.tables.now in OnOk result ((laws : FieldLaws m) (f : ℕ → Elem m) → Stands m t.size walk.old.vector f → Stands m t.size walk.new.vector (power m laws t k f e)) }
+        ensures raised { let m = F.Field.meaning self.now.field.now in let t = self.now.tables.now in OnOk result ((laws : FieldLaws m) (f : ℕ → Elem m) → Stands m (stair_count t) walk.old.vector f → Stands m (stair_count t) walk.new.vector (power m laws t k f e)) }
     {
         for _i in 0..e {
             self.advance(k, walk)?;
@@ -29,7 +30,7 @@ impl<'a, F: Field> Matrices<'a, F> {
     // its variable.
     fn act(&self, monomial: Monomial, walk: &mut Walk) -> Result<(), Misfit>
         ensures fits { OnErr result (¬ Ready self.now.tables.now self.now.n) }
-        ensures acted { let m = F.Field.meaning self.now.field.now in let t = self.now.tables.now in OnOk result ((laws : FieldLaws m) (f : ℕ → Elem m) → Stands m t.size walk.old.vector f → Stands m t.size walk.new.vector (acts m laws t self.now.n monomial f)) }
+        ensures acted { let m = F.Field.meaning self.now.field.now in let t = self.now.tables.now in OnOk result ((laws : FieldLaws m) (f : ℕ → Elem m) → Stands m (stair_count t) walk.old.vector f → Stands m (stair_count t) walk.new.vector (acts m laws t self.now.n monomial f)) }
     {
         for k in (0..self.n).rev() {
             self.raise(k, monomial.exponent(k), walk)?;
@@ -40,7 +41,7 @@ impl<'a, F: Field> Matrices<'a, F> {
     // Adds the value of a term to the sum.
     fn add_term(&self, term: Term, walk: &mut Walk, sum: &mut [u32; 48]) -> Result<(), Misfit>
         ensures fits { OnErr result (¬ Ready self.now.tables.now self.now.n) }
-        ensures added { let m = F.Field.meaning self.now.field.now in let t = self.now.tables.now in OnOk result ((laws : FieldLaws m) (s : ℕ → Elem m) → Stands m t.size sum.old s → Stands m t.size sum.new (λ j. (field_of m laws).◌⊕◌ (s j) ((field_of m laws).◌⊗◌ (el m laws term.coefficient) (acts m laws t self.now.n term.monomial (unit m laws) j)))) }
+        ensures added { let m = F.Field.meaning self.now.field.now in let t = self.now.tables.now in OnOk result ((laws : FieldLaws m) (s : ℕ → Elem m) → Stands m (stair_count t) sum.old s → Stands m (stair_count t) sum.new (λ j. (field_of m laws).◌⊕◌ (s j) ((field_of m laws).◌⊗◌ (el m laws term.coefficient) (acts m laws t self.now.n term.monomial (unit m laws) j)))) }
     {
         walk.start(self.field);
         self.act(term.monomial, walk)?;
@@ -51,7 +52,7 @@ impl<'a, F: Field> Matrices<'a, F> {
     // The value of a polynomial.
     pub(crate) fn evaluate(&self, terms: &[Term]) -> Result<[u32; 48], Misfit>
         ensures fits { OnErr result (¬ Ready self.now.tables.now self.now.n) }
-        ensures evaluated { let m = F.Field.meaning self.now.field.now in let t = self.now.tables.now in IfOk result (λ sum. (laws : FieldLaws m) → Stands m t.size sum (value_of m laws t self.now.n terms.now)) }
+        ensures evaluated { let m = F.Field.meaning self.now.field.now in let t = self.now.tables.now in IfOk result (λ sum. (laws : FieldLaws m) → Stands m (stair_count t) sum (value_of m laws t self.now.n terms.now)) }
     {
         let mut walk = Walk::new();
         let mut sum = [self.field.zero(); 48];

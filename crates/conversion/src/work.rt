@@ -6,13 +6,14 @@ ghost use Rattle.field.specs.Meaning.{FieldLaws};
 ghost use Rattle.algebra.specs.Vector.{Independent};
 ghost use Rattle.algebra.specs.Elements.{field_of};
 ghost use Rattle.linear.specs.Hankel.{hankel};
-ghost use Rattle.tables.specs.Holds.{Ready};
+ghost use Rattle.tables.specs.Holds.{stair_count, Ready};
 ghost use Rattle.conversion.specs.Powers.{unit, measure};
 ghost use Rattle.conversion.specs.Phases.{Half, Whole, ShapeAsked, RowsAsked, RowsWritten};
 
-use crate::powers::{Conversion, Misfit, Walk};
+use crate::powers::{Conversion, Walk};
 use crate::questions::{ask_independent, ask_length};
 use field::Field;
+use linear::step::Misfit;
 use polynomials::JobFault;
 
 #[derive(Drop)]
@@ -91,10 +92,10 @@ impl Work {
         by: &Conversion<F>,
         out: &mut [u32],
     ) -> Result<(), JobFault>
-        requires { by.now.matrices.n * by.now.matrices.tables.now.size ≤ length out.old }
+        requires { by.now.matrices.n * stair_count by.now.matrices.tables.now ≤ length out.old }
         ensures refused_as_was { OnErr result (out.new ≡ out.old) }
-        ensures rest_unchanged { let size = by.now.matrices.n * by.now.matrices.tables.now.size in drop size out.new ≡ drop size out.old }
-        ensures rows { let m = F.Field.meaning by.now.matrices.field.now in let t = by.now.matrices.tables.now in (laws : FieldLaws m) → Ready t by.now.matrices.n → Whole m laws t by.now.k by.now.r.now self.old.sequence → Independent (field_of m laws) t.size t.size (hankel (field_of m laws) (measure m laws t by.now.k by.now.r.now (unit m laws))) → RowsWritten m laws t by.now.k by.now.r.now by.now.matrices.n self.old.connection out.new result }
+        ensures rest_unchanged { let size = by.now.matrices.n * stair_count by.now.matrices.tables.now in drop size out.new ≡ drop size out.old }
+        ensures rows { let m = F.Field.meaning by.now.matrices.field.now in let t = by.now.matrices.tables.now in (laws : FieldLaws m) → Ready t by.now.matrices.n → Whole m laws t by.now.k by.now.r.now self.old.sequence → Independent (field_of m laws) (stair_count t) (stair_count t) (hankel (field_of m laws) (measure m laws t by.now.k by.now.r.now (unit m laws))) → RowsWritten m laws t by.now.k by.now.r.now by.now.matrices.n self.old.connection out.new result }
     {
         by.right_sides(&mut self.walk, &mut self.sides)?;
         by.take_table(

@@ -1,5 +1,6 @@
 use Rattle.std.proofs.Common.{◌≡◌, ◌+◌, ◌-◌, length, take, refl, ◌∙◌, arith}
 use Rattle.std.proofs.lemmas.List.{length-take-le}
+use Rattle.tables.specs.Holds.{stair_count}
 use Rattle.conversion.proofs.Standing.{front_reads}
 use Rattle.conversion.proofs.Lengths.{least_of, full_length}
 use Rattle.conversion.proofs.questions.ask_length.Goals as goal
@@ -8,7 +9,7 @@ pub returns-then-l-d : goal.returns-then-l-d
 returns-then-l-d g c laws s st =
     let m = g.F.Field.meaning c.args.matrices.now.field.now in
     let t = c.args.matrices.now.tables.now in
-    let d = t.size in
+    let d = stair_count t in
     let xs = take (c.size-d.result + c.size-d.result - 0) c.args.sequence.now in
     let long : length xs ≡ d + d = length-take-le (c.size-d.result + c.size-d.result - 0) c.args.sequence.now (omega (arith, t.few)) ∙ omega arith in
     let same = front_reads m laws (d + d) (c.size-d.result + c.size-d.result - 0) c.args.sequence.now s (omega arith) (omega (arith, t.few)) st in
@@ -19,7 +20,7 @@ pub returns : goal.returns
 returns g c laws s st =
     let m = g.F.Field.meaning c.args.matrices.now.field.now in
     let t = c.args.matrices.now.tables.now in
-    let d = t.size in
+    let d = stair_count t in
     let xs = take (c.size-d.result + c.size-d.result - 0) c.args.sequence.now in
     let long : length xs ≡ d + d = length-take-le (c.size-d.result + c.size-d.result - 0) c.args.sequence.now (omega (arith, t.few)) ∙ omega arith in
     let same = front_reads m laws (d + d) (c.size-d.result + c.size-d.result - 0) c.args.sequence.now s (omega arith) (omega (arith, t.few)) st in

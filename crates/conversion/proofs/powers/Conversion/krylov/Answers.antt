@@ -1,6 +1,7 @@
 use Rattle.std.proofs.Common.{◌≡◌, ℕ, ◌+◌, ◌-◌, ◌*◌, ◌<◌, ◌≤◌, T, List, length, get_or, take, sym, refl, ap, ◌∙◌, subst, add-one, arith, get_or-take, rules, below_more}
 use Rattle.std.proofs.lemmas.List.{length-take-le}
 use Rattle.linear.proofs.Writes.{put}
+use Rattle.tables.specs.Holds.{stair_count}
 use Rattle.conversion.specs.Powers.{Stands, unit, power, measure}
 use Rattle.conversion.proofs.Overwriting.{mid_below, mid_in, mid_each, mid_length}
 use Rattle.conversion.proofs.Standing.{dots, elem_by}
@@ -38,18 +39,18 @@ loop-j-preserved g c laws =
           (λ i h l q. mid_below (j * 48) w c.loop-j.vectors ys fits same (i * 48 + l) (omega (arith, t.few)) ∙ inv.1 i h l q)
           (λ l q. mid_in (j * 48) w c.loop-j.vectors ys fits same l (omega arith) ∙ word l (omega arith) ∙ inv.3 l q),
       put c.loop-j.words j c.dot.result (λ i. (measure m laws t k r (unit m laws) i).0) (omega (arith, t.few)) inv.2
-          (dots m laws t.size r c.loop-j.walk.vector c.dot.result (power m laws t k (unit m laws) j) c.args.self.now.exact (omega (arith, t.few)) c.dot.ensures.elements inv.3),
-      subst (λ (i : ℕ). Stands m t.size c.advance.new.walk.vector (power m laws t k (unit m laws) i)) (sym (add-one j)) (c.in_ok-advance.ensures.advanced laws (power m laws t k (unit m laws) j) inv.3),
+          (dots m laws (stair_count t) r c.loop-j.walk.vector c.dot.result (power m laws t k (unit m laws) j) c.args.self.now.exact (omega (arith, t.few)) c.dot.ensures.elements inv.3),
+      subst (λ (i : ℕ). Stands m (stair_count t) c.advance.new.walk.vector (power m laws t k (unit m laws) i)) (sym (add-one j)) (c.in_ok-advance.ensures.advanced laws (power m laws t k (unit m laws) j) inv.3),
     )
 
 pub returns : goal.returns
 returns g c =
     let m = g.F.Field.meaning c.args.self.now.matrices.field.now in
     let t = c.args.self.now.matrices.tables.now in
-    let all : c.loop-j.j ≡ t.size = omega arith in
+    let all : c.loop-j.j ≡ stair_count t = omega arith in
     record {
       fits = tt;
       vectors = λ laws. let inv = c.loop-j.invariant laws in record { elements = inv.0; stand = λ j h. inv.1 j (omega arith) };
       words = λ laws j h. (c.loop-j.invariant laws).2 j (omega arith);
-      next = λ laws. subst (λ (i : ℕ). Stands m t.size c.loop-j.walk.vector (power m laws t c.args.self.now.k (unit m laws) i)) all (c.loop-j.invariant laws).3;
+      next = λ laws. subst (λ (i : ℕ). Stands m (stair_count t) c.loop-j.walk.vector (power m laws t c.args.self.now.k (unit m laws) i)) all (c.loop-j.invariant laws).3;
     }

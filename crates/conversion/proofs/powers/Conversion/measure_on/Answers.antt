@@ -1,6 +1,7 @@
 use Rattle.std.proofs.Common.{◌≡◌, ℕ, ◌+◌, ◌-◌, ◌≤◌, length, take, drop, ap, ◌∙◌, arith}
 use Rattle.std.proofs.lemmas.Result.{on_ok_weaker}
 use Rattle.algebra.specs.Elements.{Elem}
+use Rattle.tables.specs.Holds.{stair_count}
 use Rattle.conversion.specs.Powers.{unit, power, measure}
 use Rattle.conversion.proofs.Overwriting.{part_length, joined_halves}
 use Rattle.conversion.proofs.Standing.{measure_more}
@@ -24,8 +25,8 @@ returns g c =
           joined_halves (λ (i x : ℕ). x ≡ (measure m laws t k r (unit m laws) i).0) d w xs c.measure.new.out fits (c.measure.auto.out ∙ part) wd
           (λ i q. half.measured i (omega arith))
           (λ i q.
-          let at : t.size + i ≡ d + i = omega arith in
-          measured laws (power m laws t k (unit m laws) t.size) half.next i (omega arith)
-          ∙ ap (λ (x : Elem m). x.0) (measure_more m laws t k r (unit m laws) t.size i ∙ ap (measure m laws t k r (unit m laws)) at))
+          let at : stair_count t + i ≡ d + i = omega arith in
+          measured laws (power m laws t k (unit m laws) (stair_count t)) half.next i (omega arith)
+          ∙ ap (λ (x : Elem m). x.0) (measure_more m laws t k r (unit m laws) (stair_count t) i ∙ ap (measure m laws t k r (unit m laws)) at))
           j (omega arith)) c.measure.ensures.measured;
     }

@@ -1,4 +1,5 @@
 use Rattle.std.proofs.Common.{arith}
+use Rattle.tables.specs.Holds.{stair_count}
 use Rattle.conversion.specs.Powers.{unit}
 use Rattle.conversion.specs.Values.{acts}
 use Rattle.conversion.proofs.Evaluating.{multiple_added}
@@ -13,6 +14,6 @@ returns g c =
     record {
       fits = tt;
       added = λ laws s S.
-          multiple_added m laws (g.met.F.Field.everywhere F) t.size a.coefficient c.act.new.walk.vector c.args.sum.now c.add_multiple.new.to s (acts m laws t c.args.self.now.n a.monomial (unit m laws)) (omega (arith, t.few)) (omega (arith, t.few)) c.add_multiple.ensures.sums S
+          multiple_added m laws (g.met.F.Field.everywhere F) (stair_count t) a.coefficient c.act.new.walk.vector c.args.sum.now c.add_multiple.new.to s (acts m laws t c.args.self.now.n a.monomial (unit m laws)) (omega (arith, t.few)) (omega (arith, t.few)) c.add_multiple.ensures.sums S
           (c.in_ok-act.ensures.acted laws (unit m laws) (λ j h. c.start.ensures laws j (omega (arith, t.few))));
     }

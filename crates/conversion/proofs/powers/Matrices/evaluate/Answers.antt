@@ -3,6 +3,7 @@ use Rattle.std.proofs.lemmas.List.{take_more, take_all, get_or-replicate}
 use Rattle.order.specs.Monomials.{one, monomial}
 use Rattle.algebra.specs.Elements.{Elem}
 use Rattle.staircase.specs.declared.rules.Term.{Term}
+use Rattle.tables.specs.Holds.{stair_count}
 use Rattle.conversion.specs.Powers.{Stands}
 use Rattle.conversion.specs.Values.{value_of}
 use Rattle.conversion.proofs.Evaluating.{value_more}
@@ -29,4 +30,4 @@ pub returns-clause-evaluated : goal.returns-clause-evaluated
 returns-clause-evaluated g c laws =
     let m = g.F.Field.meaning c.args.self.now.field.now in
     let t = c.args.self.now.tables.now in
-    subst (λ (xs : List Term). Stands m t.size c.loop-term.sum (value_of m laws t c.args.self.now.n xs)) (take_all c.loop-term.term-index c.args.terms.now (omega arith)) (c.loop-term.invariant laws)
+    subst (λ (xs : List Term). Stands m (stair_count t) c.loop-term.sum (value_of m laws t c.args.self.now.n xs)) (take_all c.loop-term.term-index c.args.terms.now (omega arith)) (c.loop-term.invariant laws)

@@ -2,6 +2,7 @@ use Rattle.std.proofs.Common.{◌≡◌, ℕ, ◌+◌, ◌*◌, ◌<◌, get_or,
 use Rattle.algebra.specs.Elements.{Elem, field_of, read}
 use Rattle.linear.specs.Elimination.{rows}
 use Rattle.linear.specs.Hankel.{hankel}
+use Rattle.tables.specs.Holds.{stair_count}
 use Rattle.conversion.specs.Powers.{map_of, unit, measure}
 use Rattle.conversion.proofs.Standing.{front_reads}
 use Rattle.conversion.proofs.Solving.{row_over}
@@ -11,7 +12,7 @@ pub returns : goal.returns
 returns g c =
     let m = g.F.Field.meaning c.args.by.now.matrices.field.now in
     let t = c.args.by.now.matrices.tables.now in
-    let d = t.size in
+    let d = stair_count t in
     let k = c.args.by.now.k in
     let r = c.args.by.now.r.now in
     let seq = c.args.self.now.sequence in
