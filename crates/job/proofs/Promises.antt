@@ -1,10 +1,9 @@
 -- What follows from the answer of a call: the run stays whole, and the job is again as calls leave it.
-use Rattle.std.proofs.Common.{◌≡◌, ℕ, Bool, true, false, cond, List, [], ◌∷◌, length, IsErrAnd, Ok, Err, Result, sym, refl, ap, ◌∙◌, subst, inl, arith}
-use Rattle.std.proofs.lemmas.Bool.{true≢false}
+use Rattle.std.proofs.Common.{◌≡◌, ℕ, Some, None, List, [], ◌∷◌, length, IsErrAnd, OnErr, Ok, Err, Result, sym, refl, ap, ◌∙◌, subst, inl, arith}
 use Rattle.field.specs.Meaning.{FieldMeaning, FieldLaws}
 use Rattle.order.specs.Laws.{Comparison, OrderLaws}
 use Rattle.runs.specs.Question.{Question, single, Refused}
-use Rattle.runs.specs.Job.{Stage, opened, closed}
+use Rattle.runs.specs.Job.{opened, closed}
 use Rattle.runs.specs.Call.{Call, Answer, refused, asks, Answers, after, Answered}
 use Rattle.runs.proofs.Runs.{sound_kept}
 use Rattle.runs.proofs.WholeRuns.{answers_keep_whole}
@@ -15,26 +14,25 @@ use Rattle.polynomials.specs.declared.fault.JobFault.TheVariants.{NotOpen}
 use Rattle.polynomials.specs.Faults.{number_of, place_of}
 use Rattle.polynomials.specs.Asked.{Asked}
 use Rattle.tables.specs.Holds.{Holds}
-use Rattle.job.specs.declared.job.Table.{Table}
-use Rattle.job.specs.State.{state, Kept}
+use Rattle.job.specs.declared.table.Table.{Table}
+use Rattle.tables.specs.declared.tables.Tables.{Tables}
+use Rattle.job.specs.State.{stage_of, state, Kept}
 use Rattle.job.specs.Promise.{answer_of, Promised}
 
--- the stage, from the flag
+-- the stage, from the tables
 
-pub stage_closed : (t : Table) → t.closed ≡ true → (state t).stage ≡ closed
-stage_closed t e = ap (λ (b : Bool). cond b closed opened) e
+pub stage_closed : (t : Table) (x : Tables) → t.tables ≡ Some x → (state t).stage ≡ closed
+stage_closed t x e = ap stage_of e
 
-pub stage_opened : (t : Table) → t.closed ≡ false → (state t).stage ≡ opened
-stage_opened t e = ap (λ (b : Bool). cond b closed opened) e
+pub not_opened : (t : Table) → (state t).stage ≡ closed → (state t).stage ≡ opened → ⊥
+not_opened t e h = cc
 
-opened≢closed : opened ≡ closed → ⊥
-opened≢closed e = true≢false (ap (λ (s : Stage). elim s [ opened ↦ true | closed ↦ false ]) e)
+pub not_closed : (t : Table) → t.tables ≡ None → (state t).stage ≡ closed → ⊥
+not_closed t e h = let o : (state t).stage ≡ opened = ap stage_of e in cc
 
-pub not_opened : (t : Table) → t.closed ≡ true → (state t).stage ≡ opened → ⊥
-not_opened t e h = opened≢closed (sym h ∙ stage_closed t e)
-
-pub not_closed : (t : Table) → t.closed ≡ false → (state t).stage ≡ closed → ⊥
-not_closed t e h = opened≢closed (sym (stage_opened t e) ∙ h)
+-- an open job has no tables
+pub no_tables : (t : Table) → (state t).stage ≡ opened → (x : Tables) → t.tables ≡ Some x → ⊥
+no_tables t o x e = not_opened t (stage_closed t x e) o
 
 -- the exit of a `?` is the error
 pub is_error : {A : Type 0} (r : Result A JobFault) (f : JobFault) → IsErrAnd r (λ e. e ≡ f) → r ≡ Err f
@@ -51,7 +49,7 @@ module _ (m : FieldMeaning) (cmp : Comparison) (O : OrderLaws cmp) (t : Table) (
 
   -- one that leaves another job, whose tables are right where it is closed
   pub changed : (a : Answer) (u : Table) → ((laws : FieldLaws m) → Kept m laws cmp t → Answers m laws cmp (state t) c a) → ((laws : FieldLaws m) → Kept m laws cmp t → state u ≡ after (state t) c a)
-      → ((laws : FieldLaws m) → Kept m laws cmp t → u.closed ≡ true → Holds m laws cmp u.n (held u.polynomials) u.tables) → Promised m cmp t c a u
+      → ((laws : FieldLaws m) → Kept m laws cmp t → (x : Tables) → u.tables ≡ Some x → Holds m laws cmp u.n (held u.polynomials) x) → Promised m cmp t c a u
   changed a u A e H =
       let all : (laws : FieldLaws m) → Kept m laws cmp t → Answered m laws cmp (state t) c a (state u) = λ laws K. record { answers = A laws K; leaves = e laws K } in
       record {
@@ -65,7 +63,7 @@ module _ (m : FieldMeaning) (cmp : Comparison) (O : OrderLaws cmp) (t : Table) (
   broken {A} words r f b h = subst (λ (x : Result A JobFault). Promised m cmp t c (answer_of words x) t) (sym (is_error r f b)) (refused_as_was (refused (number_of f) 0 (place_of f)) h refl)
 
 -- the first question of Enter and of Close
-pub open_refused : (t : Table) (f : JobFault) → t.closed ≡ true → f ≡ NotOpen → Refused (single 5 0 ((state t).stage ≡ opened) ∷ []) (number_of f) 0 (place_of f)
+pub open_refused : (t : Table) (f : JobFault) → (state t).stage ≡ closed → f ≡ NotOpen → Refused (single 5 0 ((state t).stage ≡ opened) ∷ []) (number_of f) 0 (place_of f)
 open_refused t f shut e = inl (not_opened t shut, ap number_of e, refl, ap place_of e)
 
 -- questions that are refused by the exit of a `?`
@@ -77,7 +75,7 @@ pub no_members : {A : Type 0} (xs : List A) → length xs ≡ 0 → xs ≡ []
 no_members [] e = refl
 no_members (x ∷ xs) e = absurd (omega arith)
 
--- what is promised where a call refuses
-pub on_error : {A : Type 0} (r : Result A JobFault) (S : Type 0) → S → elim r as (λ _. Type 0) [ Ok x ↦ Unit {0} | Err x ↦ S ]
-on_error (Ok a) S s = tt
-on_error (Err f) S s = s
+-- what holds anyway holds where a call refuses
+pub on_error : {A P : Type 0} (r : Result A JobFault) → P → OnErr r P
+on_error (Ok a) h = tt
+on_error (Err f) h = h

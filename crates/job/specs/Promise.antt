@@ -17,7 +17,7 @@ use Rattle.runs.specs.Call.{Call, Answer, refused, accepted, Answered}
 use Rattle.runs.specs.Whole.{StaysWhole}
 use Rattle.polynomials.specs.declared.fault.JobFault.{JobFault}
 use Rattle.polynomials.specs.Faults.{number_of, place_of}
-use Rattle.job.specs.declared.job.Table.{Table}
+use Rattle.job.specs.declared.table.Table.{Table}
 use Rattle.job.specs.State.{state, Kept}
 
 abbrev pub answer_of : {A : Type 0} → (A → List ℕ) → Result A JobFault → Answer

@@ -4,6 +4,7 @@
 #![tactic(auto)]
 
 pub mod job;
+pub mod table;
 
 pub use job::Job;
 pub use polynomials::{JobFault, Term};

@@ -1,8 +1,7 @@
 // Open and Enter: the calls that put something into a job.
-ghost use Rattle.std.specs.Prelude.{◌≡◌, ℕ, true, false, [], ◌∷◌, length, Ok, Err};
+ghost use Rattle.std.specs.Prelude.{◌≡◌, ℕ, [], ◌∷◌, length, OnOk, Ok, Err};
 ghost use Rattle.polynomials.specs.Held.{terms_of};
 ghost use Rattle.polynomials.specs.Asked.{Asked};
-ghost use Rattle.polynomials.specs.declared.fault.JobFault.TheVariants.{NotOpen};
 ghost use Rattle.runs.specs.Call as call;
 ghost use Rattle.runs.specs.Enter.{room_asks, enter_asks};
 ghost use Rattle.field.specs.Meaning.{FieldLaws};
@@ -11,38 +10,24 @@ ghost use Rattle.runs.specs.Run.{open_asks};
 ghost use Rattle.job.specs.State.{state, Kept};
 ghost use Rattle.job.specs.Promise.{answer_of, Promised};
 
-use crate::job::Table;
+use crate::table::Table;
 use crate::{Job, JobFault, Term};
 use field::Field;
 use order::{Monomial, Order};
 use polynomials::questions::ask_terms;
-
-impl Table {
-    // Whether the job is open.
-    pub(crate) fn ask_open(&self) -> Result<(), JobFault>
-        ensures { elim result [ Ok _ ↦ self.now.closed ≡ false | Err f ↦ (self.now.closed ≡ true) × (f ≡ NotOpen) ] }
-    {
-        if self.closed {
-            Err(JobFault::NotOpen)
-        } else {
-            Ok(())
-        }
-    }
-}
 
 impl<F: Field, O: Order> Job<F, O> {
     // Makes the job a new open one of n variables. Its field and its order stay.
     pub fn open(&mut self, n: usize) -> Result<(), JobFault>
         ensures asked { Asked 0 (open_asks n) result }
         ensures opened { elim result [ Ok _ ↦ state self.new.table ≡ def.new n | Err _ ↦ self.new ≡ self.old ] }
-        ensures kept { elim result [ Ok _ ↦ ((laws : FieldLaws (F.Field.meaning self.old.field)) → Kept (F.Field.meaning self.old.field) laws (O.Order.meaning self.old.order) self.new.table) | Err _ ↦ Unit {0} ] }
+        ensures kept { OnOk result ((laws : FieldLaws (F.Field.meaning self.old.field)) → Kept (F.Field.meaning self.old.field) laws (O.Order.meaning self.old.order) self.new.table) }
         ensures same_field_and_order { (self.new.field ≡ self.old.field) × (self.new.order ≡ self.old.order) }
     {
-        if n < 1 || n > Monomial::VARIABLES {
+        if !(1..=Monomial::VARIABLES).contains(&n) {
             return Err(JobFault::Variables);
         }
-        self.table.n = n;
-        self.clear();
+        self.table = Table::new(n);
         Ok(())
     }
 
@@ -52,8 +37,7 @@ impl<F: Field, O: Order> Job<F, O> {
         ensures kept { (laws : FieldLaws (F.Field.meaning self.old.field)) → Kept (F.Field.meaning self.old.field) laws (O.Order.meaning self.old.order) self.new.table }
         ensures same_field_and_order { (self.new.field ≡ self.old.field) × (self.new.order ≡ self.old.order) }
     {
-        self.table.closed = false;
-        self.table.polynomials.clear();
+        self.table = Table::new(self.table.n);
     }
 
     // Whether there is room for one more polynomial of so many terms.

@@ -6,12 +6,11 @@ ghost use Rattle.order.specs.Monomials as Monomials;
 ghost use Rattle.polynomials.specs.Held.{entries};
 ghost use Rattle.job.specs.State.{state, Kept};
 
-use crate::job::Table;
+use crate::table::Table;
 use crate::{Job, Term};
 use field::Field;
 use order::Order;
 use polynomials::Polynomials;
-use tables::Tables;
 
 impl<F: Field, O: Order> Job<F, O> {
     // An empty open job of one variable.
@@ -24,12 +23,7 @@ impl<F: Field, O: Order> Job<F, O> {
         Job {
             field,
             order,
-            table: Table {
-                n: 1,
-                closed: false,
-                polynomials: Polynomials::new(),
-                tables: Tables::new(),
-            },
+            table: Table::new(1),
         }
     }
 
@@ -45,7 +39,7 @@ impl<F: Field, O: Order> Job<F, O> {
     pub fn is_open(&self) -> bool
         ensures { Decides result ((state self.now.table).stage ≡ def.opened) }
     {
-        !self.table.closed
+        self.table.tables.is_none()
     }
 
     // Whether it is open and holds no polynomial.

@@ -7,7 +7,7 @@ use Rattle.polynomials.specs.Faults.{number_of, place_of}
 use Rattle.polynomials.proofs.Answering.{asked_break, asked_after}
 use Rattle.polynomials.proofs.Stored.{length_terms}
 use Rattle.job.specs.State.{state}
-use Rattle.job.proofs.Promises.{stage_opened, open_refused}
+use Rattle.job.proofs.Promises.{open_refused}
 use Rattle.job.proofs.job.Job.ask_enter.Goals as goal
 
 pub returns-in_err-ask_open : goal.returns-in_err-ask_open
@@ -27,7 +27,7 @@ returns-in_err-ask_room g c =
     let t = c.args.self.now.table in
     let p = terms_of c.args.terms.now in
     let f = c.in_err-ask_room.field-0.0 in
-    let stays = stage_opened t c.in_ok-ask_open.ensures in
+    let stays = c.in_ok-ask_open.ensures in
     let no = subst (λ (k : ℕ). Refused (room_asks 0 (state t) k) (number_of f) 0 (place_of f)) (sym (length_terms c.args.terms.now)) (c.in_err-ask_room.ensures 0 (state t) refl) in
     asked_break 0 (single 5 0 ((state t).stage ≡ opened) ∷ []) (room_asks 0 (state t) (length p)) (terms_asks m cmp t.n 0 p) c.from_residual-in_err-ask_room.result f c.from_residual-in_err-ask_room.ensures.1 (stays, tt) no
 
@@ -37,6 +37,6 @@ returns g c =
     let cmp = g.O.Order.meaning c.args.self.now.order in
     let t = c.args.self.now.table in
     let p = terms_of c.args.terms.now in
-    let stays = stage_opened t c.in_ok-ask_open.ensures in
+    let stays = c.in_ok-ask_open.ensures in
     let room = subst (λ (k : ℕ). AllYes (room_asks 0 (state t) k)) (sym (length_terms c.args.terms.now)) (c.in_ok-ask_room.ensures 0 (state t) refl) in
     asked_after 0 (single 5 0 ((state t).stage ≡ opened) ∷ room_asks 0 (state t) (length p)) (terms_asks m cmp t.n 0 p) c.ask_terms.result (stays, room) (c.ask_terms.ensures 0)

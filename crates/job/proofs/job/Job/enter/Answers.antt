@@ -5,7 +5,7 @@ use Rattle.polynomials.proofs.Stored.{length_terms}
 use Rattle.runs.specs.Enter.{enter_asks}
 use Rattle.runs.specs.Call.{enter, accepted}
 use Rattle.job.specs.State.{state}
-use Rattle.job.proofs.Promises.{not_opened, is_refused, broken, changed}
+use Rattle.job.proofs.Promises.{no_tables, is_refused, broken, changed}
 use Rattle.job.proofs.job.Job.enter.Goals as goal
 
 pub returns-in_err-ask_enter : goal.returns-in_err-ask_enter
@@ -35,6 +35,6 @@ returns g c =
     record {
       asked = y;
       entered = ap (λ (ps : List (List def.Term)). record { n = t.n; polynomials = ps; stage = (state t).stage }) more;
-      promised = changed m cmp O t (enter p) (accepted []) _ (λ laws K. (y, refl)) (λ laws K. ap (λ (ps : List (List def.Term)). record { n = t.n; polynomials = ps; stage = (state t).stage }) more) (λ laws K shut. absurd (not_opened t shut y.0));
+      promised = changed m cmp O t (enter p) (accepted []) _ (λ laws K. (y, refl)) (λ laws K. ap (λ (ps : List (List def.Term)). record { n = t.n; polynomials = ps; stage = (state t).stage }) more) (λ laws K x e. absurd (no_tables t y.0 x e));
       same_field_and_order = (refl, refl);
     }

@@ -1,6 +1,7 @@
-use Rattle.std.proofs.Common.{◌≡◌, Bool, true, cond, sym, ap, ◌∙◌, arith}
-use Rattle.runs.specs.Job.{opened, closed}
-use Rattle.job.specs.State.{state}
+use Rattle.std.proofs.Common.{◌≡◌, ℕ, Some, None, Option, cond, nat_lt, slice_index_or, sym, ap, ◌∙◌, arith}
+use Rattle.order.specs.Monomials.{one}
+use Rattle.tables.specs.declared.tables.Tables.{Tables}
+use Rattle.job.specs.State.{stage_of, state}
 use Rattle.job.specs.Promise.{stair_of}
 use Rattle.job.proofs.Stairs.{stair_held}
 use Rattle.job.proofs.job.Job.stair.Goals as goal
@@ -10,6 +11,8 @@ returns g c laws K =
     let m = g.F.Field.meaning c.args.self.now.field in
     let cmp = g.O.Order.meaning c.args.self.now.order in
     let t = c.args.self.now.table in
-    let shut : t.closed ≡ true = c.if-not-self.false in
-    c.stair.ensures ∙ stair_held m laws cmp (state t) t.tables (K.tables shut) c.args.place (λ e. omega arith)
-    ∙ sym (ap (λ (b : Bool). stair_of m laws cmp (state t) c.args.place (cond b closed opened)) shut)
+    let x = c.in_ok-tables.tables.now in
+    let made : t.tables ≡ Some x = sym c.in_ok-tables.ensures.value in
+    let h = c.in_ok-checked_sub.ensures in
+    c.stair.ensures ∙ ap (λ (i : ℕ). cond (nat_lt i x.size) (Some (slice_index_or x.stairs i one)) None) h.1 ∙ stair_held m laws cmp (state t) x (K.tables x made) c.args.place (λ e. omega arith)
+    ∙ sym (ap (λ (o : Option Tables). stair_of m laws cmp (state t) c.args.place (stage_of o)) made)
