@@ -13,11 +13,11 @@ use Rattle.runs.specs.Enter.{room_asks, terms_asks, enter_asks}
 use Rattle.runs.specs.Text.{words, next, terms, past_terms, term_count, polynomial, past, polynomials, past_all, header_n, header_count, text_length, line_asks, lines_asks, polynomial_asks, polynomials_asks, fill_asks}
 use Rattle.runs.proofs.Questions.{yes_append, yes_rest}
 use Rattle.runs.proofs.Texts.{length_terms, body_asks, later_asks, header_asks}
-use Rattle.text.specs.declared.place.Place.{Place}
+use Rattle.column.specs.declared.place.Place.{Place}
 use Rattle.text.specs.declared.fault.TextFault.TheVariants.{Line, NotEmpty, OtherVariables}
 use Rattle.text.specs.Asked.{Faulted, header_of}
 use Rattle.text.specs.Clamped.{clamped_terms}
-use Rattle.text.specs.Steps.{Counted, LinePassed, LinesPassed}
+use Rattle.text.specs.Steps.{LinePassed, LinesPassed}
 use Rattle.text.specs.Filling.{PolynomialPassed, PolynomialsWalked, PolynomialsPassed}
 use Rattle.text.proofs.Clamping.{length_clamped, clamped_accepted, clamped_refused}
 
@@ -128,7 +128,6 @@ module _ (m : FieldMeaning) (cmp : Comparison) where
                   (subst (λ (us : List job.Term). AllYes (terms_asks m cmp j.n p.line us)) (clamped_accepted m cmp j.n p.line (polynomial j.n from) terms-yes) terms-yes)));
               rest = ls.rest ∙ ap₂ (λ (c : ℕ) (bs : List ℕ). past_terms (suc j.n) c bs) is l.rest;
               line = omega (arith, ls.line, l.line, is);
-              counted = ls.counted;
               inside = ls.inside;
             }
 
@@ -138,8 +137,8 @@ module _ (m : FieldMeaning) (cmp : Comparison) where
   one_less k i h = omega arith
 
   module _ (bytes : List ℕ) (k : ℕ) (j : Job) (p : Place) where
-    pub polynomials_none : Counted p → p.at ≤ length bytes → PolynomialsWalked m cmp bytes k 0 j p j p
-    polynomials_none h l =
+    pub polynomials_none : p.at ≤ length bytes → PolynomialsWalked m cmp bytes k 0 j p j p
+    polynomials_none l =
         let e : k - 0 ≡ k = omega arith in
         record {
           refuses = λ number line place r. subst (λ (x : ℕ). Refused (polynomials_asks m cmp p.line j x (drop p.at bytes)) number line place) e r;
@@ -148,7 +147,6 @@ module _ (m : FieldMeaning) (cmp : Comparison) where
           enters = ap (λ (x : ℕ). holding j (polynomials j.n x (drop p.at bytes))) e;
           same_n = refl;
           same_stage = refl;
-          counted = h;
           inside = l;
         }
 
@@ -200,7 +198,6 @@ module _ (m : FieldMeaning) (cmp : Comparison) where
               ∙ w.enters;
           same_n = ap (λ (x : Job). x.n) e ∙ w.same_n;
           same_stage = ap (λ (x : Job). x.stage) e ∙ w.same_stage;
-          counted = l.counted;
           inside = l.inside;
         }
 
@@ -242,8 +239,14 @@ module _ (m : FieldMeaning) (cmp : Comparison) where
         fill-accepted e z = (empty, yes_append (line_asks 1 4 bytes) (header_asks m cmp j bytes) y (e, z))
 
   -- the place after the last polynomial is the length of the text
-  pub fill_length : (bytes : List ℕ) (j j' : Job) (q : Place) → PolynomialsPassed m cmp bytes (header_count bytes) j (record { at = 45; line = 2 }) j' q → q.at ≡ text_length j.n bytes
-  fill_length bytes j j' q w = omega (arith, ap length w.rest, length-drop q.at bytes, w.inside)
+  -- the count as the header has it
+  pub recounted : (bytes : List ℕ) (j j' : Job) (q : Place) {p : Place} {k l : ℕ} → k ≡ l → PolynomialsPassed m cmp bytes k j p j' q → PolynomialsPassed m cmp bytes l j p j' q
+  recounted bytes j j' q {p = p} e w = subst (λ (x : ℕ). PolynomialsPassed m cmp bytes x j p j' q) e w
+
+  pub fill_length : (bytes : List ℕ) (j j' : Job) (q : Place) {p : Place} → p.at ≡ 45 → PolynomialsPassed m cmp bytes (header_count bytes) j p j' q → q.at ≡ text_length j.n bytes
+  fill_length bytes j j' q at w =
+      let rest : drop q.at bytes ≡ past_all j.n (header_count bytes) (next 4 bytes) = w.rest ∙ ap (λ (k : ℕ). past_all j.n (header_count bytes) (drop k bytes)) at in
+      omega (arith, ap length rest, length-drop q.at bytes, w.inside)
 
 -- a job without polynomials, cleared after a refusal, is as it was
 pub cleared_same : (j : Job) (n : ℕ) (stage : Stage) → j.polynomials ≡ [] → n ≡ j.n → stage ≡ j.stage → ◌≡◌ {A = Job} (record { n = n; polynomials = []; stage = stage }) j

@@ -10,10 +10,10 @@ use Rattle.runs.specs.Text.{fill_asks, text_polynomials}
 use Rattle.runs.specs.Writing.{basis_text, field_code, order_code}
 use Rattle.runs.specs.Call.{fill}
 use Rattle.runs.proofs.Lines.{texts_written}
-use Rattle.job.specs.declared.job.Table.{Table}
+use Rattle.job.specs.declared.table.Table.{Table}
 use Rattle.job.specs.State.{state}
 use Rattle.job.specs.Promise.{Promised}
-use Rattle.job.proofs.Promises.{refused_as_was, changed, not_opened}
+use Rattle.job.proofs.Promises.{refused_as_was, changed, no_tables}
 use Rattle.text.specs.declared.fault.TextFault.{TextFault}
 use Rattle.text.specs.Asked.{Faulted}
 use Rattle.text.specs.Filled.{Filled, answer_of}
@@ -25,8 +25,8 @@ module _ (m : FieldMeaning) (cmp : Comparison) (O : OrderLaws cmp) (t : Table) (
 
   -- it is open
   pub promised_open : (u : Table) → (state u).stage ≡ opened → (r : Result ℕ TextFault) → Filled m cmp bytes (state t) (state u) r → Promised m cmp t (fill bytes) (answer_of r) u
-  promised_open u o (Ok size) h = changed m cmp O t (fill bytes) (answer_of (Ok size)) u (λ laws K. (h.0, ap (λ (x : ℕ). x ∷ []) h.1)) (λ laws K. h.2) (λ laws K shut. absurd (not_opened u shut o))
-  promised_open u o (Err f) h = changed m cmp O t (fill bytes) (answer_of (Err f)) u (λ laws K. h.0) (λ laws K. h.1) (λ laws K shut. absurd (not_opened u shut o))
+  promised_open u o (Ok size) h = changed m cmp O t (fill bytes) (answer_of (Ok size)) u (λ laws K. (h.0, ap (λ (x : ℕ). x ∷ []) h.1)) (λ laws K. h.2) (λ laws K x e. absurd (no_tables u o x e))
+  promised_open u o (Err f) h = changed m cmp O t (fill bytes) (answer_of (Err f)) u (λ laws K. h.0) (λ laws K. h.1) (λ laws K x e. absurd (no_tables u o x e))
 
 -- an accepted text is the basis text of the polynomials that the job then holds
 pub text_again : (m : FieldMeaning) (laws : FieldLaws m) (cmp : Comparison) (bytes : List ℕ) (j j' : Job) (size : ℕ) → j.n ≤ variables → Filled m cmp bytes j j' (Ok size)

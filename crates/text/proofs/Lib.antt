@@ -10,3 +10,4 @@ pub mod Placing
 pub mod Entering
 pub mod Filled
 pub mod RoundTrip
+pub mod Mapped

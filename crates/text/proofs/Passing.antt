@@ -1,7 +1,8 @@
 -- A line that was read, and one that was not: what its questions got, and what stands after it.
-use Rattle.std.proofs.Common.{◌≡◌, ℕ, ◌+◌, ◌≤◌, true, List, length, get_or, drop, replicate, Ok, Err, Result, sym, refl, ap, ◌∙◌, subst, inl, inr, arith, length-append, length-drop, drop-drop}
+use Rattle.std.proofs.Common.{◌≡◌, ℕ, ◌+◌, ◌≤◌, true, List, length, get_or, drop, replicate, IfOk, Ok, Err, Result, sym, refl, ap, ◌∙◌, subst, inl, inr, arith, length-append, length-drop, drop-drop}
 use Rattle.std.specs.Result.{result_unwrap_or, result_map_both}
 use Rattle.column.specs.Line.{line, line_length, ReadsLine, exact, LineTaken, fault_number}
+use Rattle.column.specs.Walk.{byte_after}
 use Rattle.column.specs.declared.line.LineFault.{LineFault}
 use Rattle.column.specs.declared.line.LineFault.TheVariants.{WrongLength, NotANumber}
 use Rattle.column.proofs.Lines.{line_length_is, exact_line}
@@ -9,10 +10,10 @@ use Rattle.column.proofs.Newlines.{ends_from_exact}
 use Rattle.column.proofs.Exactness.{reading_line_from}
 use Rattle.runs.specs.Question.{AllYes, Refused}
 use Rattle.runs.specs.Text.{words, line_asks}
-use Rattle.text.specs.declared.place.Place.{Place}
+use Rattle.column.specs.declared.place.Place.{Place}
 use Rattle.text.specs.declared.fault.TextFault.TheVariants.{Line}
 use Rattle.text.specs.Asked.{header_of}
-use Rattle.text.specs.Steps.{Counted, LineRead}
+use Rattle.text.specs.Steps.{LineRead}
 
 module _ (c : ℕ) (bs : List ℕ) where
   -- the two questions of a line that reads
@@ -33,8 +34,8 @@ module _ (c : ℕ) (bs : List ℕ) where
 
 module _ (bytes old new : List ℕ) (p : Place) where
   -- from what reading a line promises
-  pub line_passed : (at : ℕ) → Counted p → LineTaken bytes p.at old new (Ok at) → LineRead bytes (length old) p new (Ok (record { at = at; line = p.line + 1 }))
-  line_passed at counted h =
+  pub line_passed : (q : Place) → q.line ≡ p.line + 1 → LineTaken bytes p.at old new (Ok q.at) → LineRead bytes (length old) p new (Ok q)
+  line_passed q after h =
       let room = line_room (length old) (drop p.at bytes) new h.1 in
       let size = length-drop p.at bytes in
       let sum = h.0 in (
@@ -42,12 +43,16 @@ module _ (bytes old new : List ℕ) (p : Place) where
           asked = line_yes (length old) (drop p.at bytes) p.line new h.1;
           rest = ap (λ (k : ℕ). drop k bytes) sum ∙ sym (drop-drop (line_length (length old)) p.at bytes);
           line = omega arith;
-          counted = omega arith;
           further = omega arith;
           inside = omega arith;
         },
         line_words (length old) (drop p.at bytes) new h.1,
       )
+
+  -- whichever it promises
+  pub line_answered : (r : Result Place LineFault) → LineTaken bytes p.at old new (byte_after r) → IfOk r (λ q. q.line ≡ p.line + 1) → LineRead bytes (length old) p new (result_map_both (λ q. q) (λ f. Line f p.line) r)
+  line_answered (Ok q) h after = line_passed q after h
+  line_answered (Err f) h after = line_no (length old) (drop p.at bytes) p.line f h.0
 
 -- the four words of a header
 pub header_read : (bytes ws : List ℕ) → ReadsLine 4 bytes (Ok ws) → Ok (get_or ws 0 0, get_or ws 1 0, get_or ws 2 0, get_or ws 3 0) ≡ header_of bytes

@@ -8,16 +8,16 @@ use Rattle.runs.specs.Job as job
 use Rattle.runs.specs.Question.{AllYes, Refused}
 use Rattle.runs.specs.Text.{words, next, term, terms, past_terms, line_asks, lines_asks}
 use Rattle.runs.proofs.Questions.{yes_append}
-use Rattle.text.specs.declared.place.Place.{Place}
+use Rattle.column.specs.declared.place.Place.{Place}
 use Rattle.text.specs.Clamped.{clamped, clamped_terms}
-use Rattle.text.specs.Steps.{Counted, LinePassed, LinesPassed, Walked}
+use Rattle.text.specs.Steps.{LinePassed, LinesPassed, Walked}
 
 one_less : (k i : ℕ) → i < k → k - i ≡ suc (k - (i + 1))
 one_less k i h = omega arith
 
 module _ (bytes : List ℕ) (c k : ℕ) (p : Place) where
-  pub walked_none : (out : List Term) → Counted p → p.at ≤ length bytes → Walked bytes c k 0 p p out
-  walked_none out h l =
+  pub walked_none : (out : List Term) → p.at ≤ length bytes → Walked bytes c k 0 p p out
+  walked_none out l =
       let e : k - 0 ≡ k = omega arith in
       record {
         refuses = λ number line place r. subst (λ (j : ℕ). Refused (lines_asks p.line c j (drop p.at bytes)) number line place) e r;
@@ -25,7 +25,6 @@ module _ (bytes : List ℕ) (c k : ℕ) (p : Place) where
         rest = ap (λ (j : ℕ). past_terms c j (drop p.at bytes)) e;
         taken = ap (λ (j : ℕ). clamped_terms (terms c j (drop p.at bytes))) e;
         line = omega arith;
-        counted = h;
         further = omega arith;
         inside = l;
       }
@@ -67,7 +66,6 @@ module _ (bytes : List ℕ) (c k : ℕ) (p : Place) where
         rest = rest-there ∙ w.rest;
         taken = taken-there ws t r is e ∙ w.taken;
         line = omega (arith, l.line, w.line);
-        counted = l.counted;
         further = omega (arith, l.further, w.further);
         inside = l.inside;
       }
@@ -88,7 +86,6 @@ module _ (bytes : List ℕ) (c k : ℕ) (p : Place) where
           asked = w.accepts (subst (λ (j : ℕ). AllYes (lines_asks q.line c j (drop q.at bytes))) (sym e) tt);
           rest = sym (ap (λ (j : ℕ). past_terms c j (drop q.at bytes)) e) ∙ w.rest;
           line = omega (arith, w.line);
-          counted = w.counted;
           further = w.further;
           inside = w.inside;
         },

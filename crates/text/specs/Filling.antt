@@ -13,15 +13,13 @@ use Rattle.runs.specs.Question.{AllYes, Refused}
 use Rattle.runs.specs.Job.{Job, holding}
 use Rattle.runs.specs.Text.{term_count, polynomial, past, polynomials, past_all, polynomial_asks, polynomials_asks}
 use Rattle.text.specs.declared.fault.TextFault.{TextFault}
-use Rattle.text.specs.declared.place.Place.{Place}
+use Rattle.column.specs.declared.place.Place.{Place}
 use Rattle.text.specs.Asked.{Faulted}
-use Rattle.text.specs.Steps.{Counted}
 
 pub record PolynomialPassed (m : FieldMeaning) (cmp : Comparison) (bytes : List ℕ) (j : Job) (p q : Place) : Type 0 where
   pub asked : AllYes (polynomial_asks m cmp p.line j (drop p.at bytes))
   pub rest : drop q.at bytes ≡ past j.n (drop p.at bytes)
   pub line : q.line ≡ p.line + (1 + term_count (drop p.at bytes))
-  pub counted : Counted q
   pub inside : q.at ≤ length bytes
 
 abbrev pub PolynomialEntered : FieldMeaning → Comparison → List ℕ → Job → Place → Job → Result Place TextFault → Type 0
@@ -35,7 +33,6 @@ pub record PolynomialsWalked (m : FieldMeaning) (cmp : Comparison) (bytes : List
   pub enters : holding j' (polynomials j.n (k - i) (drop q.at bytes)) ≡ holding j (polynomials j.n k (drop p.at bytes))
   pub same_n : j'.n ≡ j.n
   pub same_stage : j'.stage ≡ j.stage
-  pub counted : Counted q
   pub inside : q.at ≤ length bytes
 
 pub record PolynomialsPassed (m : FieldMeaning) (cmp : Comparison) (bytes : List ℕ) (k : ℕ) (j : Job) (p : Place) (j' : Job) (q : Place) : Type 0 where

@@ -1,5 +1,4 @@
 -- What reading from a place keeps. Inner: the private functions of the crate cite it, and no public contract.
---   Counted p             a line's number is bounded by its place, so that it fits a word
 --   LinePassed           the questions of the line of c columns at the place p got a yes, and the place q follows it
 --   LinesPassed          the same of k lines
 --   LineRead             the answer of reading the line at a place into words: the place after it, or the question that got a no
@@ -12,18 +11,14 @@ use Rattle.polynomials.specs.Held.{terms_of}
 use Rattle.runs.specs.Question.{AllYes, Refused}
 use Rattle.runs.specs.Text.{words, next, terms, past_terms, term_count, line_asks, lines_asks}
 use Rattle.text.specs.declared.fault.TextFault.{TextFault}
-use Rattle.text.specs.declared.place.Place.{Place}
+use Rattle.column.specs.declared.place.Place.{Place}
 use Rattle.text.specs.Asked.{Faulted}
 use Rattle.text.specs.Clamped.{clamped_terms}
-
-abbrev pub Counted : Place → Type 0
-Counted p = p.line ≤ p.at
 
 pub record LinePassed (bytes : List ℕ) (c : ℕ) (p q : Place) : Type 0 where
   pub asked : AllYes (line_asks p.line c (drop p.at bytes))
   pub rest : drop q.at bytes ≡ next c (drop p.at bytes)
   pub line : q.line ≡ suc p.line
-  pub counted : Counted q
   pub further : p.at ≤ q.at
   pub inside : q.at ≤ length bytes
 
@@ -31,7 +26,6 @@ pub record LinesPassed (bytes : List ℕ) (c k : ℕ) (p q : Place) : Type 0 whe
   pub asked : AllYes (lines_asks p.line c k (drop p.at bytes))
   pub rest : drop q.at bytes ≡ past_terms c k (drop p.at bytes)
   pub line : q.line ≡ p.line + k
-  pub counted : Counted q
   pub further : p.at ≤ q.at
   pub inside : q.at ≤ length bytes
 
@@ -53,6 +47,5 @@ pub record Walked (bytes : List ℕ) (c k i : ℕ) (p q : Place) (out : List Ter
   pub rest : past_terms c (k - i) (drop q.at bytes) ≡ past_terms c k (drop p.at bytes)
   pub taken : terms_of (take i out) ++ clamped_terms (terms c (k - i) (drop q.at bytes)) ≡ clamped_terms (terms c k (drop p.at bytes))
   pub line : q.line ≡ p.line + i
-  pub counted : Counted q
   pub further : p.at ≤ q.at
   pub inside : q.at ≤ length bytes

@@ -6,14 +6,13 @@ ghost use Rattle.runs.specs.Call as call;
 ghost use Rattle.runs.specs.Writing.{basis_text, field_code, order_code};
 ghost use Rattle.job.specs.State.{state};
 ghost use Rattle.job.specs.Promise.{Promised};
-ghost use Rattle.text.specs.Steps.{Counted};
 ghost use Rattle.text.specs.Filling.{PolynomialEntered, PolynomialsEntered};
 ghost use Rattle.text.specs.Filled.{Filled, answer_of};
 
 use crate::TextFault;
 use crate::first_line::header;
-use crate::place::Place;
 use crate::reading::{read_count, read_terms};
+use column::Place;
 use field::Field;
 use job::Job;
 use order::{Monomial, Order};
@@ -24,12 +23,7 @@ const AFTER_HEADER: Place = Place { at: 45, line: 2 };
 
 const NO_TERM: Term = Term {
     coefficient: 0,
-    monomial: Monomial {
-        x1: 0,
-        x2: 0,
-        x3: 0,
-        x4: 0,
-    },
+    monomial: Monomial::ONE,
 };
 
 // Enters the polynomial at a place and answers the place after it. What the job refuses carries the
@@ -38,23 +32,19 @@ fn fill_polynomial<F: Field, O: Order>(
     job: &mut Job<F, O>,
     bytes: &[u8],
     place: Place,
-    terms: &mut [Term],
+    terms: &mut [Term; Polynomials::MOST_TERMS],
 ) -> Result<Place, TextFault>
-    requires counted { Counted place }
-    requires wide { length terms.old ≡ 1024 }
-    requires opened { (state job.old.table).stage ≡ opened }
+    requires { (state job.old.table).stage ≡ opened }
     ensures entered { PolynomialEntered (F.Field.meaning job.old.field) (O.Order.meaning job.old.order) bytes.now (state job.old.table) place (state job.new.table) result }
     ensures same_field_and_order { (job.new.field ≡ job.old.field) × (job.new.order ≡ job.old.order) }
 {
     let (count, first) = read_count(bytes, place)?;
-    if let Err(fault) = job.ask_room(count) {
-        return Err(TextFault::from(fault).in_line(place.line));
-    }
-    let end = read_terms(bytes, first, job.variables(), count, terms)?;
-    match job.enter(&terms[0..count]) {
-        Ok(()) => Ok(end),
-        Err(fault) => Err(TextFault::from(fault).in_line(place.line)),
-    }
+    job.ask_room(count)
+        .map_err(|fault| TextFault::Job(fault, place.line))?;
+    let end = read_terms(bytes, first, job.variables(), &mut terms[..count])?;
+    job.enter(&terms[..count])
+        .map_err(|refusal| TextFault::Job(refusal, place.line))?;
+    Ok(end)
 }
 
 // Enters so many polynomials from a place on and answers the place after them.
@@ -63,11 +53,9 @@ fn fill_polynomials<F: Field, O: Order>(
     bytes: &[u8],
     place: Place,
     count: usize,
-    terms: &mut [Term],
+    terms: &mut [Term; Polynomials::MOST_TERMS],
 ) -> Result<Place, TextFault>
-    requires counted { Counted place }
     requires inside { place.at ≤ length bytes.now }
-    requires wide { length terms.old ≡ 1024 }
     requires opened { (state job.old.table).stage ≡ opened }
     ensures entered { PolynomialsEntered (F.Field.meaning job.old.field) (O.Order.meaning job.old.order) bytes.now count (state job.old.table) place (state job.new.table) result }
     ensures same_field_and_order { (job.new.field ≡ job.old.field) × (job.new.order ≡ job.old.order) }

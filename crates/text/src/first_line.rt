@@ -12,8 +12,6 @@ pub fn header(bytes: &[u8]) -> Result<(u32, u32, u32, u32), TextFault>
     ensures asked { Asked (line_asks 1 4 bytes.now) result }
 {
     let mut words = [0u32; 4];
-    match read_line(bytes, 0, &mut words) {
-        Ok(_) => Ok((words[0], words[1], words[2], words[3])),
-        Err(fault) => Err(TextFault::Line(fault, 1)),
-    }
+    read_line(bytes, 0, &mut words).map_err(|fault| TextFault::Line(fault, 1))?;
+    Ok((words[0], words[1], words[2], words[3]))
 }

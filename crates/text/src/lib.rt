@@ -5,7 +5,6 @@
 pub mod fault;
 pub mod filling;
 pub mod first_line;
-mod place;
 mod reading;
 mod term;
 pub mod writing;

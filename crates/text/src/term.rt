@@ -11,7 +11,7 @@ use polynomials::Term;
 fn word_at(words: &[u32], i: usize) -> u32
     ensures { result ≡ slice_index words.now i }
 {
-    if i < words.len() { words[i] } else { 0 }
+    words.get(i).copied().unwrap_or(0)
 }
 
 // The largest exponent of a record where the word passes it.

@@ -1,6 +1,6 @@
 // Write: the basis text of a job's polynomials. Room for the whole text is asked for first, so that
 // where there is none nothing is written.
-ghost use Rattle.std.specs.Prelude.{◌≡◌, suc, ◌+◌, ◌≤◌, length, take, Ok, Err};
+ghost use Rattle.std.specs.Prelude.{◌≡◌, ℕ, suc, ◌+◌, ◌≤◌, length, take, Ok, Err};
 ghost use Rattle.std.specs.List.{flat_map, AllByRecursion};
 ghost use Rattle.field.specs.Meaning.{FieldLaws};
 ghost use Rattle.column.specs.Column.{Word};
@@ -18,7 +18,7 @@ use crate::TextFault;
 use column::write_line;
 use field::Field;
 use job::Job;
-use order::Order;
+use order::{Monomial, Order};
 use polynomials::{JobFault, Polynomials, Term};
 
 // The bytes of a line of one column, of four, and of a column.
@@ -52,59 +52,55 @@ fn put_line(out: &mut [u8], at: usize, words: &[u32]) -> usize
     write_line(out, at, words).unwrap_or(at)
 }
 
-// Fills the words with those of a term's line.
-fn fill_words(term: Term, n: usize, words: &mut [u32])
-    requires { length words.old ≡ suc n }
-    ensures { words.new ≡ term_words n (term.coefficient, term.monomial) }
+// The words of a term's line in all variables; those of its line in fewer come first.
+fn words_of(term: Term) -> [u32; 5]
+    ensures wide { length result ≡ 5 }
+    ensures front { (n : ℕ) → n ≤ variables → take (n + 1) result ≡ term_words n (term.coefficient, term.monomial) }
 {
-    words[0] = term.coefficient;
-    for k in 0..n {
-        words[k + 1] = u32::from(term.monomial.exponent(k));
-    }
+    let Monomial { x1, x2, x3, x4 } = term.monomial;
+    [
+        term.coefficient,
+        u32::from(x1),
+        u32::from(x2),
+        u32::from(x3),
+        u32::from(x4),
+    ]
 }
 
 // Writes the lines of the terms at a place that has room for them, and answers the place after them.
-fn put_terms(terms: &[Term], n: usize, words: &mut [u32], out: &mut [u8], at: usize) -> usize
-    requires wide { length words.old ≡ suc n }
+fn put_terms(terms: &[Term], n: usize, out: &mut [u8], at: usize) -> usize
+    requires few { n ≤ variables }
     requires room { at + terms_size n (terms_of terms.now) ≤ length out.old }
-    ensures same_width { length words.new ≡ suc n }
     ensures fit { Words (terms_of terms.now) }
     ensures long { length (flat_map (term_line n) (terms_of terms.now)) ≡ terms_size n (terms_of terms.now) }
     ensures place_after { result ≡ at + terms_size n (terms_of terms.now) }
     ensures bytes { out.new ≡ put out.old at (flat_map (term_line n) (terms_of terms.now)) }
 {
     let mut end = at;
-    for i in 0..terms.len() {
-        fill_words(terms[i], n, words);
-        end = put_line(out, end, words);
+    for term in terms {
+        let words = words_of(*term);
+        end = put_line(out, end, &words[..n + 1]);
     }
     end
 }
 
 // The same of a polynomial: the line of its number of terms, then theirs.
-fn put_polynomial(terms: &[Term], n: usize, words: &mut [u32], out: &mut [u8], at: usize) -> usize
-    requires few { length terms.now ≤ 1024 }
-    requires wide { length words.old ≡ suc n }
+fn put_polynomial(terms: &[Term], n: usize, out: &mut [u8], at: usize) -> usize
+    requires short { length terms.now ≤ 1024 }
+    requires few { n ≤ variables }
     requires room { at + polynomial_size n (terms_of terms.now) ≤ length out.old }
-    ensures same_width { length words.new ≡ suc n }
     ensures fit { Words (terms_of terms.now) }
     ensures long { length (polynomial_text n (terms_of terms.now)) ≡ polynomial_size n (terms_of terms.now) }
     ensures place_after { result ≡ at + polynomial_size n (terms_of terms.now) }
     ensures bytes { out.new ≡ put out.old at (polynomial_text n (terms_of terms.now)) }
 {
     let first = put_line(out, at, &[terms.len() as u32]);
-    put_terms(terms, n, words, out, first)
+    put_terms(terms, n, out, first)
 }
 
 // The same of all polynomials.
-fn put_polynomials(
-    polynomials: &Polynomials,
-    n: usize,
-    words: &mut [u32],
-    out: &mut [u8],
-    at: usize,
-) -> usize
-    requires wide { length words.old ≡ suc n }
+fn put_polynomials(polynomials: &Polynomials, n: usize, out: &mut [u8], at: usize) -> usize
+    requires few { n ≤ variables }
     requires room { at + sizes (polynomial_size n) (held polynomials.now) ≤ length out.old }
     ensures fit { AllWords (held polynomials.now) }
     ensures long { length (flat_map (polynomial_text n) (held polynomials.now)) ≡ sizes (polynomial_size n) (held polynomials.now) }
@@ -113,7 +109,7 @@ fn put_polynomials(
 {
     let mut end = at;
     for i in 0..polynomials.count() {
-        end = put_polynomial(polynomials.polynomial(i), n, words, out, end);
+        end = put_polynomial(polynomials.polynomial(i), n, out, end);
     }
     end
 }
@@ -135,8 +131,7 @@ fn write_text(
     }
     let count = polynomials.count();
     let first = put_line(out, 0, &[field_code, order_code, n as u32, count as u32]);
-    let mut words = [0u32; 5];
-    Ok(put_polynomials(polynomials, n, &mut words[0..n + 1], out, first))
+    Ok(put_polynomials(polynomials, n, out, first))
 }
 
 // Writes the basis text of the job's polynomials, with these codes of field and order, at the front of

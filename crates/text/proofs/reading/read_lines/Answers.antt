@@ -6,25 +6,22 @@ use Rattle.text.specs.Steps.{LineRead}
 use Rattle.text.proofs.Walking.{walked_none, walked_more, walked_all, walk_broken}
 use Rattle.text.proofs.reading.read_lines.Goals as goal
 
-pub loop-i-init : goal.loop-i-init
-loop-i-init c = (refl, walked_none c.args.bytes.now (length c.args.words.now) c.args.count c.args.place c.args.terms.now c.requires.counted c.requires.inside)
-
-pub next_line-requires : goal.next_line-requires
-next_line-requires c = c.loop-i.invariant.1.counted
+pub loop-term-init : goal.loop-term-init
+loop-term-init c = (refl, walked_none c.args.bytes.now (length c.args.words.now) (length c.args.terms.now) c.args.place c.args.terms.now c.requires)
 
 pub returns-in_err-here : goal.returns-in_err-here
 returns-in_err-here c =
     let p = err_from_is_err_and c.from_residual.result c.from_residual.ensures.1 in
-    let q = c.loop-i.here in
-    let e = subst (λ (x : ℕ). Faulted (line_asks q.line x (drop q.at c.args.bytes.now)) c.in_err-here.field-0.0) c.loop-i.invariant.0 c.in_err-here.ensures in
-    rw (p.1, p.2) (walk_broken c.args.bytes.now (length c.args.words.now) c.args.count c.args.place c.loop-i.i q c.loop-i.terms c.loop-i-test.true c.loop-i.invariant.1 _ _ _ e)
+    let q = c.loop-term.here in
+    let e = subst (λ (x : ℕ). Faulted (line_asks q.line x (drop q.at c.args.bytes.now)) c.in_err-here.field-0.0) c.loop-term.invariant.0 c.in_err-here.ensures in
+    rw (p.1, p.2) (walk_broken c.args.bytes.now (length c.args.words.now) (length c.args.terms.now) c.args.place c.loop-term.term-index q c.loop-term.terms c.loop-term-test.true c.loop-term.invariant.1 _ _ _ e)
 
-pub loop-i-preserved : goal.loop-i-preserved
-loop-i-preserved c =
-    let l = subst (λ (x : ℕ). LineRead c.args.bytes.now x c.loop-i.here c.next_line.new.words (Ok c.in_ok-here.here)) c.loop-i.invariant.0 c.in_ok-here.ensures in (
-      c.next_line.auto.words ∙ c.loop-i.invariant.0,
-      walked_more c.args.bytes.now (length c.args.words.now) c.args.count c.args.place c.loop-i.i c.loop-i.here c.loop-i.terms c.loop-i-test.true c.loop-i.invariant.1 c.in_ok-here.here l.0 c.next_line.new.words c.term_of.result (omega arith) l.1 c.term_of.ensures,
+pub loop-term-preserved : goal.loop-term-preserved
+loop-term-preserved c =
+    let l = subst (λ (x : ℕ). LineRead c.args.bytes.now x c.loop-term.here c.next_line.new.words (Ok c.in_ok-here.here)) c.loop-term.invariant.0 c.in_ok-here.ensures in (
+      c.next_line.auto.words ∙ c.loop-term.invariant.0,
+      walked_more c.args.bytes.now (length c.args.words.now) (length c.args.terms.now) c.args.place c.loop-term.term-index c.loop-term.here c.loop-term.terms c.loop-term-test.true c.loop-term.invariant.1 c.in_ok-here.here l.0 c.next_line.new.words c.term_of.result (omega arith) l.1 c.term_of.ensures,
     )
 
 pub returns : goal.returns
-returns c = walked_all c.args.bytes.now (length c.args.words.now) c.args.count c.args.place c.loop-i.i c.loop-i.here c.loop-i.terms c.loop-i-test.false c.loop-i.auto.i-end c.loop-i.invariant.1
+returns c = walked_all c.args.bytes.now (length c.args.words.now) (length c.args.terms.now) c.args.place c.loop-term.term-index c.loop-term.here c.loop-term.terms c.loop-term-test.false c.loop-term.auto.term-index-end c.loop-term.invariant.1

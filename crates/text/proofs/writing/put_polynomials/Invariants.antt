@@ -1,4 +1,4 @@
-use Rattle.std.proofs.Common.{◌≡◌, suc, length, take}
+use Rattle.std.proofs.Common.{take}
 use Rattle.polynomials.specs.Held.{held}
 use Rattle.runs.specs.Writing.{polynomial_text}
 use Rattle.text.specs.Written.{AllWords, polynomial_size}
@@ -6,4 +6,4 @@ use Rattle.text.proofs.Parts.{Parts}
 use Rattle.text.proofs.writing.put_polynomials.Given as goal
 
 abbrev pub invariant-loop-i : goal.invariant-loop-i
-invariant-loop-i l = (length l.words ≡ suc l.n) × AllWords (take l.i (held l.polynomials)) × Parts (polynomial_text l.n) (polynomial_size l.n) (held l.polynomials) l.initial.out l.at l.i l.out l.end
+invariant-loop-i l = AllWords (take l.i (held l.polynomials)) × Parts (polynomial_text l.n) (polynomial_size l.n) (held l.polynomials) l.initial.out l.at l.i l.out l.end

@@ -1,4 +1,4 @@
-use Rattle.std.proofs.Common.{◌≡◌, suc, length, ◌∙◌, subst, arith}
+use Rattle.std.proofs.Common.{ℕ, ◌+◌, subst, arith, length-take}
 use Rattle.std.proofs.lemmas.List.{take_all}
 use Rattle.polynomials.specs.Held.{terms_of}
 use Rattle.polynomials.proofs.Stored.{length_terms}
@@ -8,24 +8,22 @@ use Rattle.text.proofs.Parts.{parts_none}
 use Rattle.text.proofs.Placing.{terms_room, terms_fit, terms_more, terms_all}
 use Rattle.text.proofs.writing.put_terms.Goals as goal
 
-pub loop-i-init : goal.loop-i-init
-loop-i-init c = (c.requires.wide, tt, parts_none (term_line c.args.n) (term_size c.args.n) (terms_of c.args.terms.now) c.args.out.now c.args.at)
+pub loop-term-init : goal.loop-term-init
+loop-term-init c = (tt, parts_none (term_line c.args.n) (term_size c.args.n) (terms_of c.args.terms.now) c.args.out.now c.args.at)
 
 pub put_line-end-requires : goal.put_line-end-requires
 put_line-end-requires c =
-    let room = terms_room c.args.n c.args.terms.now c.args.out.now c.args.at c.loop-i.i c.loop-i.end c.loop-i.out c.loop-i-test.true c.requires.room c.loop-i.invariant.2 in
-    let wide : length c.fill_words.new.words ≡ suc c.args.n = c.fill_words.auto.words ∙ c.loop-i.invariant.0 in
-    omega (arith, room, wide, c.loop-i.auto.out)
+    let room = terms_room c.args.n c.args.terms.now c.args.out.now c.args.at c.loop-term.term-index c.loop-term.end c.loop-term.out c.loop-term-test.true c.requires.room c.loop-term.invariant.1 in
+    omega (arith, room, c.requires.few, c.words_of-words.ensures.wide, length-take {A = ℕ} (c.args.n + 1) c.words_of-words.result, c.loop-term.auto.out)
 
-pub loop-i-preserved : goal.loop-i-preserved
-loop-i-preserved c = (
-  c.fill_words.auto.words ∙ c.loop-i.invariant.0,
-  terms_fit c.args.n c.args.terms.now c.args.out.now c.args.at c.loop-i.i _ c.fill_words.new.words c.loop-i-test.true c.fill_words.ensures c.put_line-end.ensures.fit c.loop-i.invariant.1,
-  terms_more c.args.n c.args.terms.now c.args.out.now c.args.at c.loop-i.i _ c.loop-i.out c.put_line-end.new.out c.fill_words.new.words c.loop-i.end c.put_line-end.result c.loop-i-test.true (omega (arith, c.requires.room)) c.loop-i.invariant.2
-      c.fill_words.ensures c.put_line-end.ensures.long c.put_line-end.ensures.bytes c.put_line-end.ensures.place_after,
+pub loop-term-preserved : goal.loop-term-preserved
+loop-term-preserved c = (
+  terms_fit c.args.n c.args.terms.now c.args.out.now c.args.at c.loop-term.term-index _ _ c.loop-term-test.true (c.words_of-words.ensures.front c.args.n c.requires.few) c.put_line-end.ensures.fit c.loop-term.invariant.0,
+  terms_more c.args.n c.args.terms.now c.args.out.now c.args.at c.loop-term.term-index _ c.loop-term.out c.put_line-end.new.out _ c.loop-term.end c.put_line-end.result c.loop-term-test.true (omega (arith, c.requires.room)) c.loop-term.invariant.1
+      (c.words_of-words.ensures.front c.args.n c.requires.few) c.put_line-end.ensures.long c.put_line-end.ensures.bytes c.put_line-end.ensures.place_after,
 )
 
 pub returns : goal.returns
 returns c =
-    let p = terms_all c.args.n c.args.terms.now c.args.out.now c.args.at c.loop-i.i c.loop-i.end c.loop-i.out c.loop-i-test.false c.loop-i.invariant.2 in
-    record { same_width = c.loop-i.invariant.0; fit = subst Words (take_all c.loop-i.i (terms_of c.args.terms.now) (omega (arith, c.loop-i-test.false, length_terms c.args.terms.now))) c.loop-i.invariant.1; long = p.1; place_after = p.2; bytes = p.0 }
+    let p = terms_all c.args.n c.args.terms.now c.args.out.now c.args.at c.loop-term.term-index c.loop-term.end c.loop-term.out c.loop-term-test.false c.loop-term.invariant.1 in
+    record { fit = subst Words (take_all c.loop-term.term-index (terms_of c.args.terms.now) (omega (arith, c.loop-term-test.false, length_terms c.args.terms.now))) c.loop-term.invariant.0; long = p.1; place_after = p.2; bytes = p.0 }
