@@ -11,15 +11,18 @@ use text::{TextFault, fill, write};
 // A coefficient and the exponents of x_1 and x_2.
 type Plain = (u32, u8, u8);
 
-const NO_TERM: Term = Term {
-    coefficient: 0,
-    monomial: Monomial {
-        x1: 0,
-        x2: 0,
-        x3: 0,
-        x4: 0,
-    },
-};
+fn term(plain: &Plain) -> Term {
+    let (coefficient, x1, x2) = *plain;
+    let monomial = Monomial {
+        x1,
+        x2,
+        ..Monomial::ONE
+    };
+    Term {
+        coefficient,
+        monomial,
+    }
+}
 
 // x_2²+5x_2+6x_1+1, x_1x_2+3x_2+2x_1+4 and x_1²+5x_2+x_1+2, over residues modulo 7.
 const TRIPLE: [&[Plain]; 3] = [
@@ -31,11 +34,7 @@ const TRIPLE: [&[Plain]; 3] = [
 fn say(rt: &HostRuntime, call: &str, answer: Result<(), JobFault>) -> io::Result<()> {
     match answer {
         Ok(()) => println!(rt; "{call}: accepted"),
-        Err(fault) => {
-            let number = fault.number();
-            let place = fault.place();
-            println!(rt; "{call}: refused by {number} at {place}")
-        }
+        Err(fault) => println!(rt; "{call}: refused by {fault}"),
     }
 }
 
@@ -55,27 +54,13 @@ fn say_words(
     println!(rt; "")
 }
 
-// Enters a polynomial of at most eight terms.
 fn enter<F: Field, O: Order>(
     rt: &HostRuntime,
     job: &mut Job<F, O>,
     polynomial: &[Plain],
 ) -> io::Result<()> {
-    let mut terms = [NO_TERM; 8];
-    let count = polynomial.len().min(8);
-    for i in 0..count {
-        let (coefficient, x1, x2) = polynomial[i];
-        terms[i] = Term {
-            coefficient,
-            monomial: Monomial {
-                x1,
-                x2,
-                x3: 0,
-                x4: 0,
-            },
-        };
-    }
-    say(rt, "enter", job.enter(&terms[0..count]))
+    let terms: Vec<Term> = polynomial.iter().map(term).collect(rt.alloc())?;
+    say(rt, "enter", job.enter(terms.as_slice()))
 }
 
 fn close<F: Field, O: Order>(rt: &HostRuntime, job: &mut Job<F, O>) -> io::Result<()> {
@@ -160,16 +145,7 @@ fn calls<F: Field, O: Order>(rt: &HostRuntime, job: &mut Job<F, O>) -> io::Resul
     convert(rt, job, "convert 1 with 0 7 1", 1, &[0, 7, 1])?;
     let short = job.convert(1, &[0, 0, 1], &mut [0; 5]);
     say(rt, "convert 1 into five words", short)?;
-    let cube = Term {
-        coefficient: 1,
-        monomial: Monomial {
-            x1: 3,
-            x2: 0,
-            x3: 0,
-            x4: 0,
-        },
-    };
-    reduce(rt, job, "reduce x_1^3", &[cube])?;
+    reduce(rt, job, "reduce x_1^3", &[term(&(1, 3, 0))])?;
     reduce(rt, job, "reduce nothing", &[])?;
     enter(rt, job, TRIPLE[0])?;
     close(rt, job)
@@ -227,11 +203,7 @@ const TEXT: &[u8] =
 fn say_text(rt: &HostRuntime, call: &str, answer: Result<usize, TextFault>) -> io::Result<()> {
     match answer {
         Ok(size) => println!(rt; "{call}: {size} bytes"),
-        Err(fault) => {
-            let (number, layer) = (fault.number(), fault.layer());
-            let (line, place) = (fault.line(), fault.place());
-            println!(rt; "{call}: refused by {number} of layer {layer}, line {line} at {place}")
-        }
+        Err(fault) => println!(rt; "{call}: refused by {fault}"),
     }
 }
 

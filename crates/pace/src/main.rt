@@ -44,10 +44,9 @@ fn converted<F: Field>(job: &Job<F, Drl>, r: &[u32], times: u32) -> u32 {
     let mut out = [0; 192];
     let mut number = 0;
     for _i in 0..times {
-        number = match job.convert(1, r, &mut out) {
-            Ok(()) => 0,
-            Err(fault) => fault.number(),
-        };
+        number = job
+            .convert(1, r, &mut out)
+            .map_or_else(|fault| fault.number(), |()| 0);
     }
     number
 }
@@ -68,17 +67,14 @@ fn run<F: Field + Drop>(
 
 fn asked(rt: &HostRuntime) -> io::Result<Turns> {
     let mut counts = [1u32; 3];
-    let mut i = 0usize;
-    for word in env::args(rt)? {
-        if i >= 1 && i <= 3 {
-            counts[i - 1] = word.parse::<u32>().unwrap_or(1);
-        }
-        i = i.saturating_add(1);
+    for (count, word) in counts.iter_mut().zip(env::args(rt)?.skip(1)) {
+        *count = word.parse::<u32>().unwrap_or(1);
     }
+    let [fills, closes, converts] = counts;
     Ok(Turns {
-        fills: counts[0],
-        closes: counts[1],
-        converts: counts[2],
+        fills,
+        closes,
+        converts,
     })
 }
 

@@ -4,8 +4,9 @@
 --   line_of f          the line of the text that the refusal is about, 0 where it is about none
 --   place_of f         the place that the refusal names, otherwise 0; a line that does not read is its own place
 --   in_line f l        the fault with the line l, where it is one of a job
+--   shown f            the fault as it is printed: its number, layer, line and place
 -- Used by: every function that reads a text.
-use Rattle.std.specs.Prelude.{ℕ}
+use Rattle.std.specs.Prelude.{ℕ, List, ◌++◌, decimal, codes}
 use Rattle.column.specs.Line.{fault_number}
 use Rattle.polynomials.specs.Faults as job
 use Rattle.text.specs.declared.fault.TextFault.{TextFault}
@@ -40,3 +41,6 @@ in_line (Line f l) k = Line f l
 in_line NotEmpty k = NotEmpty
 in_line OtherVariables k = OtherVariables
 in_line (Job f l) k = Job f k
+
+abbrev pub shown : TextFault → List ℕ
+shown f = decimal (number_of f) ++ codes " of layer " ++ decimal (layer_of f) ++ codes ", line " ++ decimal (line_of f) ++ codes " at " ++ decimal (place_of f)

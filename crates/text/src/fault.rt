@@ -6,6 +6,7 @@ ghost use Rattle.text.specs.declared.fault.TextFault.TheVariants.{Job};
 use column::LineFault;
 use polynomials::JobFault;
 
+mod print;
 pub mod report;
 
 #[derive(Clone, Copy, PartialEq, Eq, Debug)]
