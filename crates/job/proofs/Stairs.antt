@@ -13,7 +13,7 @@ use Rattle.algebra.specs.Basis as basis
 use Rattle.runs.specs.Job.{Job, closed}
 use Rattle.runs.specs.Generators.{generators, D, stair_at}
 use Rattle.tables.specs.declared.tables.Tables.{Tables}
-use Rattle.tables.specs.Holds.{Holds}
+use Rattle.tables.specs.Holds.{stair_count, Holds}
 use Rattle.job.specs.Promise.{stair_of}
 
 module _ (m : FieldMeaning) (laws : FieldLaws m) (cmp : Comparison) (j : Job) (t : Tables) (H : Holds m laws cmp j.n j.polynomials t) where
@@ -23,13 +23,13 @@ module _ (m : FieldMeaning) (laws : FieldLaws m) (cmp : Comparison) (j : Job) (t
   abbrev S : List (Mono j.n)
   S = basis.stairs j.n (before_by cmp j.n) (generators m laws j.n j.polynomials)
 
-  held : (i : ℕ) → i < t.size → get_or t.stairs i record_of.one ≡ flat j.n (stair_at m laws cmp j.n j.polynomials i)
+  held : (i : ℕ) → i < stair_count t → get_or t.stairs.items i record_of.one ≡ flat j.n (stair_at m laws cmp j.n j.polynomials i)
   held i l =
       let within : i < length S = subst (λ (x : ℕ). i < x) H.size l in
-      sym (get_or-take t.size t.stairs i record_of.one l) ∙ ap (λ (l : List Monomial). get_or l i record_of.one) H.stairs ∙ get_or-map (flat j.n) S i (one j.n) record_of.one within
+      ap (λ (l : List Monomial). get_or l i record_of.one) H.stairs ∙ get_or-map (flat j.n) S i (one j.n) record_of.one within
 
-  pub stair_held : (p : ℕ) → p ≢ 0 → cond (ltb (p - 1) t.size) (Some (get_or t.stairs (p - 1) record_of.one)) None ≡ stair_of m laws cmp j p closed
-  stair_held p ne = go (dec_lt (p - 1) t.size)
+  pub stair_held : (p : ℕ) → p ≢ 0 → cond (ltb (p - 1) stair_count t) (Some (get_or t.stairs.items (p - 1) record_of.one)) None ≡ stair_of m laws cmp j p closed
+  stair_held p ne = go (dec_lt (p - 1) stair_count t)
     where
       some : 1 ≤ p
       some = omega arith
@@ -37,14 +37,14 @@ module _ (m : FieldMeaning) (laws : FieldLaws m) (cmp : Comparison) (j : Job) (t
       pick : (b : Bool) (x : Option Monomial) → leb p d ≡ b → cond (leb 1 p && leb p d) x None ≡ cond b x None
       pick b x e = ap₂ (λ (u v : Bool). cond (u && v) x None) (le-leb 1 p some) e
 
-      go : Dec (p - 1 < t.size) → cond (ltb (p - 1) t.size) (Some (get_or t.stairs (p - 1) record_of.one)) None ≡ stair_of m laws cmp j p closed
+      go : Dec (p - 1 < stair_count t) → cond (ltb (p - 1) stair_count t) (Some (get_or t.stairs.items (p - 1) record_of.one)) None ≡ stair_of m laws cmp j p closed
       go (yes l) =
           let same : p - 1 ≡ pred p = sub-one p in
           let far : p ≤ d = omega (arith, H.size) in
-          ap (λ (b : Bool). cond b (Some (get_or t.stairs (p - 1) record_of.one)) None) (lt-ltb (p - 1) t.size l)
+          ap (λ (b : Bool). cond b (Some (get_or t.stairs.items (p - 1) record_of.one)) None) (lt-ltb (p - 1) (stair_count t) l)
           ∙ ap Some (held (p - 1) l ∙ ap (λ (i : ℕ). flat j.n (stair_at m laws cmp j.n j.polynomials i)) same)
           ∙ sym (pick true (Some (flat j.n (stair_at m laws cmp j.n j.polynomials (pred p)))) (le-leb p d far))
       go (no l) =
-          let past : t.size ≤ p - 1 = omega arith in
+          let past : (stair_count t) ≤ p - 1 = omega arith in
           let far : d < p = omega (arith, H.size) in
-          ap (λ (b : Bool). cond b (Some (get_or t.stairs (p - 1) record_of.one)) None) (le-ltb (p - 1) t.size past) ∙ sym (pick false (Some (flat j.n (stair_at m laws cmp j.n j.polynomials (pred p)))) (lt-leb p d far))
+          ap (λ (b : Bool). cond b (Some (get_or t.stairs.items (p - 1) record_of.one)) None) (le-ltb (p - 1) (stair_count t) past) ∙ sym (pick false (Some (flat j.n (stair_at m laws cmp j.n j.polynomials (pred p)))) (lt-leb p d far))

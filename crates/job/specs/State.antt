@@ -11,7 +11,7 @@ use Rattle.runs.specs.Job.{Job, Stage, opened, closed}
 use Rattle.runs.specs.Sound.{Sound}
 use Rattle.polynomials.specs.Held.{held}
 use Rattle.tables.specs.declared.tables.Tables.{Tables}
-use Rattle.tables.specs.Holds.{Holds}
+use Rattle.tables.specs.Holds.{stair_count, Holds}
 use Rattle.job.specs.declared.table.Table.{Table}
 
 abbrev pub stage_of : Option Tables → Stage
@@ -20,7 +20,7 @@ stage_of (Some x) = closed
 
 abbrev pub stairs_held : Option Tables → ℕ
 stairs_held None = 0
-stairs_held (Some x) = x.size
+stairs_held (Some x) = stair_count x
 
 abbrev pub state : Table → Job
 state t = record { n = t.n; polynomials = held t.polynomials; stage = stage_of t.tables }

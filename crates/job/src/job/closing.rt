@@ -16,13 +16,13 @@ impl<F: Field, O: Order> Job<F, O> {
         ensures same_field_and_order { (self.new.field ≡ self.old.field) × (self.new.order ≡ self.old.order) }
     {
         self.table.ask_open()?;
-        let mut tables = Tables::new();
-        let size = tables.make(
+        let tables = Tables::make(
             &self.field,
             &self.order,
             self.table.n,
             &self.table.polynomials,
         )?;
+        let size = tables.size();
         self.table.tables = Some(tables);
         Ok(size)
     }

@@ -64,7 +64,7 @@ impl<F: Field, O: Order> Job<F, O> {
         ensures same_field_and_order { (self.new.field ≡ self.old.field) × (self.new.order ≡ self.old.order) }
     {
         self.ask_enter(terms)?;
-        let _ = self.table.polynomials.push(terms);
+        self.table.polynomials.push(terms).unwrap();
         Ok(())
     }
 }

@@ -4,6 +4,7 @@ use Rattle.runs.specs.Call.{convert}
 use Rattle.polynomials.specs.Held.{held}
 use Rattle.polynomials.specs.Faults.{number_of, place_of}
 use Rattle.tables.specs.declared.tables.Tables.{Tables}
+use Rattle.tables.specs.Holds.{stair_count}
 use Rattle.conversion.specs.Answer.{Converted}
 use Rattle.job.specs.State.{stairs_held, state}
 use Rattle.job.proofs.Promises.{stage_closed, not_closed, broken}
@@ -27,7 +28,7 @@ returns-clause-promised g c =
     let made : t.tables ≡ Some x = c.in_ok-tables.ensures in
     let shut : (state t).stage ≡ closed = stage_closed t x made in
     let out = take (t.n * stairs_held t.tables) c.convert.new.out in
-    let same : take (t.n * x.size) c.convert.new.out ≡ out = ap (λ (o : Option Tables). take (t.n * stairs_held o) c.convert.new.out) (sym made) in
+    let same : take (t.n * stair_count x) c.convert.new.out ≡ out = ap (λ (o : Option Tables). take (t.n * stairs_held o) c.convert.new.out) (sym made) in
     only_reads m cmp O t (convert c.args.k c.args.r.now (length c.args.out.now)) (λ _. out) c.convert.result
     (λ laws K. converted m cmp O t shut laws c.args.k c.args.r.now (length c.args.out.now) out c.convert.result
     (subst (λ (w : List ℕ). Converted m laws cmp t.n (held t.polynomials) c.args.k c.args.r.now (length c.args.out.now) w c.convert.result) same

@@ -4,6 +4,7 @@ use Rattle.runs.specs.Call.{reduce}
 use Rattle.polynomials.specs.Held.{held, terms_of}
 use Rattle.polynomials.specs.Faults.{number_of, place_of}
 use Rattle.tables.specs.declared.tables.Tables.{Tables}
+use Rattle.tables.specs.Holds.{stair_count}
 use Rattle.conversion.specs.Answer.{Reduces}
 use Rattle.job.specs.State.{stairs_held, state}
 use Rattle.job.proofs.Promises.{stage_closed, not_closed, broken}
@@ -55,7 +56,7 @@ returns-clause-promised g c =
     let made : t.tables ≡ Some x = c.in_ok-tables.ensures in
     let shut : (state t).stage ≡ closed = stage_closed t x made in
     let out = take (stairs_held t.tables) c.reduce.new.out in
-    let same : take x.size c.reduce.new.out ≡ out = ap (λ (o : Option Tables). take (stairs_held o) c.reduce.new.out) (sym made) in
+    let same : take (stair_count x) c.reduce.new.out ≡ out = ap (λ (o : Option Tables). take (stairs_held o) c.reduce.new.out) (sym made) in
     only_reads m cmp O t (reduce p room) (λ _. out) c.reduce.result
     (λ laws K. reduced m cmp O t shut laws p room (c.in_ok-ask_elements.ensures 0) out c.reduce.result (c.in_ok-ask_exponents.ensures 0)
     (subst (λ (w : List ℕ). Reduces m laws cmp t.n (held t.polynomials) p room w c.reduce.result) same (c.reduce.ensures.answered laws cmp (held t.polynomials) O (sound_closed m laws cmp t shut K) (K.tables x made))))
