@@ -1,8 +1,9 @@
 -- The first byte 10: how many bytes stand before it, and that this decides where a line ends.
 -- Used by: Lines, Exactness.
-use Rattle.std.proofs.Common.{◌≡◌, ℕ, zero, suc, ◌+◌, ◌*◌, ◌<◌, true, cond, not, eqb, ltb, List, [], ◌∷◌, ◌++◌, length, get_or, sym, refl, ap, ◌∙◌, inl, inr, zero-add, arith}
+use Rattle.std.proofs.Common.{◌≡◌, ℕ, zero, suc, ◌+◌, ◌*◌, ◌<◌, Bool, true, cond, not, eqb, ltb, List, [], ◌∷◌, ◌++◌, length, get_or, sym, refl, ap, ◌∙◌, zero-add, arith}
 use Rattle.std.specs.List.{AllByRecursion}
-use Rattle.std.proofs.lemmas.Bool.{cases_eq, eq-eqb, ne_eqb, eqb-true, ltb-true, lt-ltb, and_parts, and_from}
+use Rattle.std.proofs.lemmas.List.Sums.{passes_at_first, fails_before_first, position_or_len_is}
+use Rattle.std.proofs.lemmas.Bool.{both_ways, eq-eqb, ne_eqb, eqb-true, ltb-true, lt-ltb, and_parts, and_from}
 use Rattle.column.specs.Line.{EndsAfter, before_newline, exact}
 
 before_here : (b : ℕ) (bs : List ℕ) → b ≡ 10 → before_newline (b ∷ bs) ≡ 0
@@ -13,31 +14,22 @@ before_next : (b : ℕ) (bs : List ℕ) → (b ≡ 10 → ⊥) → before_newlin
 unfolding before_newline
 before_next b bs n = ap (λ t. cond (not t) (1 + before_newline bs) 0) (ne_eqb b 10 n)
 
+-- the first byte 10 is the library's first place of a list that passes a test
+
+abbrev newline : ℕ → Bool
+newline b = eqb b 10
+
 stops_there : (bs : List ℕ) → before_newline bs < length bs → get_or bs (before_newline bs) 0 ≡ 10
-stops_there [] h = absurd (omega arith)
-stops_there (b ∷ bs) h =
-    elim (cases_eq b 10) [
-      | inl e ↦ ap (λ k. get_or (b ∷ bs) k 0) (before_here b bs e) ∙ e
-      | inr n ↦
-          let m : before_newline (b ∷ bs) ≡ suc (before_newline bs) = omega (arith, before_next b bs n) in
-          ap (λ k. get_or (b ∷ bs) k 0) m ∙ stops_there bs (omega arith)
-    ]
+unfolding before_newline
+stops_there bs h = eqb-true _ 10 (passes_at_first newline bs 0 h)
 
 none_before : (bs : List ℕ) (k : ℕ) → k < before_newline bs → get_or bs k 0 ≡ 10 → ⊥
-none_before [] k h e = let z : ◌≡◌ {A = ℕ} 0 10 = e in omega arith
-none_before (b ∷ bs) zero h e = omega (arith, before_here b bs e)
-none_before (b ∷ bs) (suc k) h e =
-    elim (cases_eq b 10) [
-      | inl here ↦ omega (arith, before_here b bs here)
-      | inr n ↦ none_before bs k (omega (arith, before_next b bs n)) e
-    ]
+unfolding before_newline
+none_before bs k h e = both_ways _ (fails_before_first newline bs k 0 h) (eq-eqb (get_or bs k 0) 10 e)
 
 first_there : (bs : List ℕ) (n : ℕ) → n < length bs → get_or bs n 0 ≡ 10 → ((k : ℕ) → k < n → get_or bs k 0 ≡ 10 → ⊥) → before_newline bs ≡ n
-first_there [] n h e f = absurd (omega arith)
-first_there (b ∷ bs) zero h e f = before_here b bs e
-first_there (b ∷ bs) (suc n) h e f =
-    let ih = first_there bs n (omega arith) e (λ k l. f (suc k) (omega arith)) in
-    omega (arith, before_next b bs (f 0 (omega arith)))
+unfolding before_newline
+first_there bs n h e f = position_or_len_is newline bs n 0 (omega arith) (λ k l. ne_eqb (get_or bs k 0) 10 (f k l)) (λ _. eq-eqb (get_or bs n 0) 10 e)
 
 pub ends_from_exact : (c : ℕ) (bs : List ℕ) → exact c bs ≡ true → EndsAfter c bs
 unfolding exact
