@@ -1,12 +1,11 @@
 -- The column of a number: its length, its one number, and what reading answers. All from the definition, by way of Fronts.
 -- Used by: read_column, write_column, Lines, and the laws that functions name.
-use Rattle.std.proofs.Common.{◌≡◌, ℕ, zero, suc, ◌+◌, ◌-◌, ◌≤◌, Bool, true, false, ◌&&◌, leb, List, ◌++◌, length, take, drop, replicate, Some, None, decimal, Option, sym, refl, ap, ◌∙◌, subst, arith, length-append, rules}
+use Rattle.std.proofs.Common.{◌≡◌, ℕ, zero, suc, ◌+◌, ◌-◌, ◌≤◌, Bool, true, false, ◌&&◌, leb, List, ◌++◌, length, replicate, Some, None, decimal, Option, sym, refl, ap, ◌∙◌, subst, arith, length-append, rules}
 use lib.ListN.{length-replicate}
 use Rattle.std.specs.Bool.{then_some}
 use Rattle.std.specs.Str.{bytes_eq, all_ascii_digits}
 use Rattle.std.proofs.lemmas.Fmt.{length-decimal-le, digits_value-decimal}
 use Rattle.std.proofs.lemmas.Slice.Eq.{bytes_eq-Decides}
-use Rattle.std.proofs.lemmas.List.{length-take-le}
 use Rattle.std.proofs.lemmas.Str.Parse.{IsNumeralModel, numerals_by_fold, tells_all_ascii_digits}
 use Rattle.std.proofs.lemmas.Bool.{and_parts, and_from, both_ways, leb-true, le-leb}
 use Rattle.column.specs.Column.{Word, column, Reads, shown_after, shown, reading}
@@ -41,16 +40,6 @@ same_number v w e = cc
 
 pub columns_differ : (v w : ℕ) → Word v → Word w → column v ≡ column w → v ≡ w
 columns_differ v w h k e = same_number v w (sym (front_column v h) ∙ ap front e ∙ front_column w k)
-
--- eleven bytes whose digits stand at their end, once blanks fill the place before
-pub column_filled : (part blanks : List ℕ) (k w : ℕ) → length part ≡ 11 → k + length (decimal w) ≡ 11 → drop k part ≡ decimal w
-    → blanks ≡ replicate (length (take (k - 0) part)) 32 → blanks ++ drop (k - 0) part ≡ column w
-column_filled part blanks k w n room digits e =
-    let z : k - 0 ≡ k = omega arith in
-    let l : length (take (k - 0) part) ≡ k = length-take-le (k - 0) part (omega arith) ∙ z in
-    ap (λ xs. xs ++ drop (k - 0) part) (e ∙ ap (λ j. replicate j 32) l)
-    ∙ ap (λ xs. replicate k 32 ++ xs) (ap (λ j. drop j part) z ∙ digits)
-    ∙ column_from_digits (replicate k 32 ++ decimal w) k w (length_right k (decimal w) ∙ room) refl
 
 -- the number that a column shows
 

@@ -1,11 +1,11 @@
 -- Writing a number's digits from the last to the first into the eleven bytes of a column.
 --   Spelled part place number rest    the digits of rest, then the bytes from the place on, are the digits of the number
--- Used by: put_digits.
-use Rattle.std.proofs.Common.{◌≡◌, ℕ, ◌+◌, ◌-◌, ◌/◌, ◌%◌, ◌<◌, ◌≤◌, List, [], ◌∷◌, ◌++◌, length, drop, set, decimal, sym, ap, ◌∙◌, arith, length-append, length-drop}
+-- Used by: column_of.
+use Rattle.std.proofs.Common.{◌≡◌, ℕ, ◌+◌, ◌-◌, ◌/◌, ◌%◌, ◌<◌, ◌≤◌, List, [], ◌∷◌, ◌++◌, length, take, drop, set, replicate, decimal, sym, ap, ap₂, ◌∙◌, arith, length-append, length-drop, length-set, take-append-drop}
 use Rattle.std.proofs.lemmas.Fmt.{decimal_digit, decimal_step, decimal_nonempty}
-use Rattle.std.proofs.lemmas.List.{append_assoc, append-nil, drop_all, drop-set}
-use Rattle.column.specs.Column.{Word}
-use Rattle.column.proofs.Columns.{ten_digits}
+use Rattle.std.proofs.lemmas.List.{append_assoc, append-nil, drop_all, drop-set, take-set, take-take, take-replicate}
+use Rattle.column.specs.Column.{Word, column}
+use Rattle.column.proofs.Columns.{ten_digits, column_from_digits}
 
 abbrev pub Spelled : List ℕ → ℕ → ℕ → ℕ → Type 0
 Spelled part place number rest = (decimal number ≡ decimal rest ++ drop place part) × (place ≤ 11) × (rest ≤ number)
@@ -50,14 +50,22 @@ module _ (part : List ℕ) (place number rest : ℕ) (n : length part ≡ 11) (w
         omega arith,
       )
 
-  pub spelled_all : rest < 10 → drop (place - 1) (set part (place - 1) (48 + rest)) ≡ decimal number
+  spelled_all : rest < 10 → drop (place - 1) (set part (place - 1) (48 + rest)) ≡ decimal number
   spelled_all one =
       written_before (48 + rest)
       ∙ ap (λ ds. ds ++ drop place part) (sym (decimal_digit rest one))
       ∙ sym s.0
 
-  pub spelled_first : rest < 10 → place - 1 + length (decimal number) ≡ 11
-  spelled_first one =
-      let d : length (decimal rest) ≡ 1 = ap length (decimal_digit rest one) in
-      let r = spelled_room in
-      omega (arith, spelled_place)
+  -- the bytes before stay blank
+  pub blank_before : (b : ℕ) → take place part ≡ replicate place 32 → take (place - 1) (set part (place - 1) b) ≡ replicate (place - 1) 32
+  blank_before b h =
+      take-set part (place - 1) b
+      ∙ sym (take-take (place - 1) place part (omega arith))
+      ∙ ap (take (place - 1)) h
+      ∙ take-replicate (place - 1) place 32 (omega arith)
+
+  pub spelled_column : rest < 10 → take place part ≡ replicate place 32 → set part (place - 1) (48 + rest) ≡ column number
+  spelled_column one h =
+      let bytes : List ℕ = set part (place - 1) (48 + rest) in
+      column_from_digits bytes (place - 1) number (length-set part (place - 1) (48 + rest) ∙ n)
+      (sym (take-append-drop (place - 1) bytes) ∙ ap₂ ◌++◌ (blank_before (48 + rest) h) (spelled_all one))

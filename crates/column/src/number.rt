@@ -1,6 +1,6 @@
 // One number in eleven bytes: blanks, then its decimal digits.
 // Reads the bytes that it is given, and writes only the eleven bytes of a column.
-ghost use Rattle.std.specs.Prelude.{◌≡◌, ◌+◌, ◌≤◌, length, drop, decimal, nat_le};
+ghost use Rattle.std.specs.Prelude.{◌≡◌, ◌+◌, ◌≤◌, length, nat_le};
 ghost use Rattle.column.specs.Column.{column, reading, Reads};
 ghost use Rattle.column.specs.Front.{digit, longer, step};
 ghost use Rattle.column.specs.Place.{after, placed, put};
@@ -55,32 +55,21 @@ pub fn read_column(bytes: &[u8]) -> Option<u32>
     front
 }
 
-// Writes the digits of a number at the end of a column's bytes, and answers the place of the first.
-fn put_digits(part: &mut [u8], number: u32) -> usize
-    requires { length part.old ≡ 11 }
-    ensures place { result + length (decimal number) ≡ 11 }
-    ensures digits { drop result part.new ≡ decimal number }
+// The column of a number: its digits, last to first, over blanks.
+fn column_of(number: u32) -> [u8; WIDTH]
+    ensures { result ≡ column number }
 {
     // By hand: what std promises of formatted text leaves open that a text that fits is cut, or that writing it fails.
+    let mut bytes = [b' '; WIDTH];
     let mut rest = number;
     let mut place = WIDTH;
     while rest >= 10 {
         place -= 1;
-        part[place] = b'0' + (rest % 10) as u8;
+        bytes[place] = b'0' + (rest % 10) as u8;
         rest /= 10;
     }
-    place -= 1;
-    part[place] = b'0' + rest as u8;
-    place
-}
-
-// Makes eleven bytes the column of a number.
-fn fill_column(part: &mut [u8], number: u32)
-    requires { length part.old ≡ 11 }
-    ensures { part.new ≡ column number }
-{
-    let place = put_digits(part, number);
-    part[0..place].fill(b' ');
+    bytes[place - 1] = b'0' + rest as u8;
+    bytes
 }
 
 // Writes the column of a number at a place that has room for it.
@@ -88,7 +77,7 @@ pub(crate) fn put_column(out: &mut [u8], at: usize, number: u32)
     requires { at + 11 ≤ length out.old }
     ensures { out.new ≡ put out.old at (column number) }
 {
-    fill_column(&mut out[at..at + WIDTH], number);
+    out[at..at + WIDTH].copy_from_slice(&column_of(number));
 }
 
 // Whether a column fits between a place and the end.
