@@ -65,6 +65,8 @@ fn turn<F: Field>(
     requires polynomial { length c.old ≡ length s.now + 1 }
     requires previous { length b.old ≡ length s.now + 1 }
     requires copy { length spare.old ≡ length s.now + 1 }
+    requires length { before.length ≤ n }
+    requires lag { before.lag ≤ n + 1 }
     requires held { Held (F.Field.meaning field.now) s.now c.old b.old before.length n before.lag before.miss }
     ensures { Held (F.Field.meaning field.now) s.now c.new b.new result.length (n + 1) result.lag result.miss }
 {
