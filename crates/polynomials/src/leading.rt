@@ -1,6 +1,6 @@
 // The questions of Close about the leading monomials and the later terms of the polynomials held.
 // Only reads.
-ghost use Rattle.std.specs.Prelude.{◌≡◌, ℕ, ◌≤◌, false, T, ◌↔◌, List, [], ◌∷◌, map, length, take, drop, Decides, slice_index_or};
+ghost use Rattle.std.specs.Prelude.{◌≡◌, ℕ, ◌≤◌, List, [], ◌∷◌, map, Decides, slice_index_or};
 ghost use Rattle.field.specs.Meaning.{FieldMeaning, FieldLaws};
 ghost use Rattle.order.specs.Monomials as def;
 ghost use Rattle.order.specs.Laws.{Comparison};

@@ -57,7 +57,7 @@ pub(crate) fn collect<const CAP: usize>(
     let mut found = ArrayVec::new();
     offer(leads, &mut found, Monomial::one())?;
     let mut i = 0;
-    // The list grows as it is walked, so that no iterator can borrow it.
+    // By an index, since the list grows as it is walked and no iterator may borrow it.
     while i < found.len() {
         let m = found[i];
         grow(n, leads, &mut found, m)?;
