@@ -12,7 +12,7 @@ ghost use Rattle.conversion.specs.Rows.{Row};
 
 use crate::powers::{Conversion, WIDTH, Walk};
 use field::Field;
-use linear::elimination::{Family, eliminate, solve};
+use linear::elimination::{Echelon, Family};
 use linear::step::Misfit;
 
 // The first words of the polynomial after its word 0, backwards, into all of `out`.
@@ -55,14 +55,8 @@ impl<'a, F: Field> Conversion<'a, F> {
 
     // Takes the rows of the table s_(i+j), i and j below the size of the staircase, for `solve`: all of
     // them, where they are independent.
-    pub(crate) fn take_table(
-        &self,
-        sequence: &[u32; 96],
-        table: &mut [u32; 4608],
-        pivots: &mut [usize; 48],
-        row: &mut [u32; 96],
-    )
-        ensures { let m = F.Field.meaning self.now.matrices.field.now in let d = stair_count self.now.matrices.tables.now in (laws : FieldLaws m) (s : ℕ → Elem m) → Stands m (d + d) sequence.now s → Independent (field_of m laws) d d (hankel (field_of m laws) s) → elimination.Table m laws d d (elimination.rows m laws 1 (take (d + d) sequence.now)) table.new pivots.new }
+    pub(crate) fn take_table(&self, sequence: &[u32; 96], echelon: &mut Echelon<48>)
+        ensures { let m = F.Field.meaning self.now.matrices.field.now in let d = stair_count self.now.matrices.tables.now in (laws : FieldLaws m) (s : ℕ → Elem m) → Stands m (d + d) sequence.now s → Independent (field_of m laws) d d (hankel (field_of m laws) s) → elimination.Table m laws d d (elimination.rows m laws 1 (take (d + d) sequence.now)) echelon.new.rows echelon.new.pivots }
     {
         let d = self.matrices.tables.size();
         let family = Family {
@@ -71,7 +65,7 @@ impl<'a, F: Field> Conversion<'a, F> {
             places: d,
             count: d,
         };
-        let _ = eliminate(self.matrices.field, family, table, pivots, row);
+        let _ = echelon.eliminate(self.matrices.field, family);
     }
 
     // The row of x_i into all of `out`: where i is k the monic recurrence, elsewhere the solution for
@@ -81,14 +75,14 @@ impl<'a, F: Field> Conversion<'a, F> {
         i: usize,
         connection: &[u32; 97],
         sides: &[u32; 192],
-        table: &[u32; 4608],
-        pivots: &[usize; 48],
-        row: &mut [u32; 96],
+        echelon: &mut Echelon<48>,
         out: &mut [u32],
     )
         requires variable { i < self.now.matrices.n }
         requires short { length out.old ≤ width }
-        ensures { let m = F.Field.meaning self.now.matrices.field.now in let d = length out.old in (laws : FieldLaws m) (v : ℕ → ℕ → Elem m) (b : ℕ → Elem m) → elimination.Table m laws d d v table.now pivots.now → (i ≢ self.now.k → StandsAt m d (i * width) sides.now b) → Row m laws d v connection.now b i self.now.k (λ l. slice_index out.new l) }
+        ensures rows_unchanged { echelon.new.rows ≡ echelon.old.rows }
+        ensures pivots_unchanged { echelon.new.pivots ≡ echelon.old.pivots }
+        ensures row { let m = F.Field.meaning self.now.matrices.field.now in let d = length out.old in (laws : FieldLaws m) (v : ℕ → ℕ → Elem m) (b : ℕ → Elem m) → elimination.Table m laws d d v echelon.old.rows echelon.old.pivots → (i ≢ self.now.k → StandsAt m d (i * width) sides.now b) → Row m laws d v connection.now b i self.now.k (λ l. slice_index out.new l) }
     {
         if i == self.k {
             put_backwards(connection, out);
@@ -96,7 +90,7 @@ impl<'a, F: Field> Conversion<'a, F> {
         }
         let d = out.len();
         let side = &sides[i * WIDTH..i * WIDTH + d];
-        let _ = solve(self.matrices.field, table, pivots, side, row, out);
+        let _ = echelon.solve(self.matrices.field, side, out);
     }
 
     // The rows of all variables, one after the other.
@@ -104,27 +98,17 @@ impl<'a, F: Field> Conversion<'a, F> {
         &self,
         connection: &[u32; 97],
         sides: &[u32; 192],
-        table: &[u32; 4608],
-        pivots: &[usize; 48],
-        row: &mut [u32; 96],
+        echelon: &mut Echelon<48>,
         out: &mut [u32],
     )
         requires { self.now.matrices.n * stair_count self.now.matrices.tables.now ≤ length out.old }
         ensures rest_unchanged { let size = self.now.matrices.n * stair_count self.now.matrices.tables.now in drop size out.new ≡ drop size out.old }
-        ensures rows { let m = F.Field.meaning self.now.matrices.field.now in let d = stair_count self.now.matrices.tables.now in (laws : FieldLaws m) (v : ℕ → ℕ → Elem m) (b : ℕ → ℕ → Elem m) → elimination.Table m laws d d v table.now pivots.now → ((i : ℕ) → i < self.now.matrices.n → i ≢ self.now.k → StandsAt m d (i * width) sides.now (b i)) → (i : ℕ) → i < self.now.matrices.n → Row m laws d v connection.now (b i) i self.now.k (λ l. slice_index out.new (i * d + l)) }
+        ensures rows { let m = F.Field.meaning self.now.matrices.field.now in let d = stair_count self.now.matrices.tables.now in (laws : FieldLaws m) (v : ℕ → ℕ → Elem m) (b : ℕ → ℕ → Elem m) → elimination.Table m laws d d v echelon.old.rows echelon.old.pivots → ((i : ℕ) → i < self.now.matrices.n → i ≢ self.now.k → StandsAt m d (i * width) sides.now (b i)) → (i : ℕ) → i < self.now.matrices.n → Row m laws d v connection.now (b i) i self.now.k (λ l. slice_index out.new (i * d + l)) }
     {
         let d = self.matrices.tables.size();
         // By index: of words that were written through chunks_mut a proof knows only how many they are.
         for i in 0..self.matrices.n {
-            self.write_row(
-                i,
-                connection,
-                sides,
-                table,
-                pivots,
-                row,
-                &mut out[i * d..i * d + d],
-            );
+            self.write_row(i, connection, sides, echelon, &mut out[i * d..i * d + d]);
         }
     }
 }

@@ -1,4 +1,4 @@
-use Rattle.std.proofs.Common.{◌≡◌, ℕ, ◌+◌, ◌-◌, ◌*◌, length, take, drop, sym, ◌∙◌, subst, arith}
+use Rattle.std.proofs.Common.{◌≡◌, ℕ, ◌+◌, ◌-◌, ◌*◌, length, take, drop, sym, refl, ◌∙◌, subst, arith}
 use Rattle.linear.specs.Elimination.{Table}
 use Rattle.conversion.specs.Powers.{Stands}
 use Rattle.conversion.proofs.Overwriting.{part_length}
@@ -8,20 +8,28 @@ use Rattle.conversion.proofs.Solving.{solved_row}
 use Rattle.conversion.proofs.powers.Conversion.write_row.Goals as goal
 
 pub returns-then-i-self : goal.returns-then-i-self
-returns-then-i-self g c laws v b G st = record { backwards = λ e l h. c.put_backwards.ensures l h; solves = λ ne. absurd (ne c.if-i-self.true) }
+returns-then-i-self g c = record {
+  rows_unchanged = refl;
+  pivots_unchanged = refl;
+  row = λ laws v b G st. record { backwards = λ e l h. c.put_backwards.ensures l h; solves = λ ne. absurd (ne c.if-i-self.true) };
+}
 
 pub returns : goal.returns
-returns g c laws v b G st =
-    let m = g.F.Field.meaning c.args.self.now.matrices.field.now in
-    let d = length c.args.out.now in
-    let a = c.args.i * 48 in
-    let w : ℕ = a + d - a in
-    let side = take w (drop a c.args.sides.now) in
-    let long : length side ≡ d = part_length a w c.args.sides.now (omega arith) ∙ omega arith in
-    let stand : Stands m d side b = part_stands m laws d a w c.args.sides.now b (omega arith) (st c.if-i-self.false) in
-    record {
-      backwards = λ e. absurd (c.if-i-self.false e);
-      solves = λ ne. solved_row m laws d v b side c.solve.new.out c.solve.result long c.solve.auto.out stand
-          (c.solve.ensures.solved (is_roomy (length side) d (length c.args.table.now) (length c.args.pivots.now) (length c.args.row.now) (omega arith) (omega arith) (omega arith) (omega arith)) laws v
-          (λ j h. elem_by m laws _ (b j) (stand j (omega arith))) (subst (λ (x : ℕ). Table m laws x d v c.args.table.now c.args.pivots.now) (sym long) G));
-    }
+returns g c = record {
+  rows_unchanged = c.solve.ensures.rows;
+  pivots_unchanged = c.solve.ensures.pivots;
+  row = λ laws v b G st.
+      let m = g.F.Field.meaning c.args.self.now.matrices.field.now in
+      let d = length c.args.out.now in
+      let a = c.args.i * 48 in
+      let w : ℕ = a + d - a in
+      let side = take w (drop a c.args.sides.now) in
+      let long : length side ≡ d = part_length a w c.args.sides.now (omega arith) ∙ omega arith in
+      let stand : Stands m d side b = part_stands m laws d a w c.args.sides.now b (omega arith) (st c.if-i-self.false) in
+      record {
+        backwards = λ e. absurd (c.if-i-self.false e);
+        solves = λ ne. solved_row m laws d v b side c.solve.new.out c.solve.result long c.solve.auto.out stand
+            (c.solve.ensures.solved (is_roomy (length side) d 48 (omega arith) (omega arith)) laws v
+            (λ j h. elem_by m laws _ (b j) (stand j (omega arith))) (subst (λ (x : ℕ). Table m laws x d v c.args.echelon.now.rows c.args.echelon.now.pivots) (sym long) G));
+      };
+}
