@@ -1,5 +1,5 @@
 -- The questions of Close, one group after the other.
-use Rattle.std.proofs.Common.{◌≡◌, ℕ, ◌-◌, ◌<◌, ◌≤◌, List, [], ◌∷◌, ◌++◌, length, take, IsErrAnd, Result, sym, refl, ap, ◌∙◌, subst, inl, arith}
+use Rattle.std.proofs.Common.{◌≡◌, ℕ, ◌<◌, ◌≤◌, List, [], ◌∷◌, ◌++◌, length, IsErrAnd, Result, sym, refl, ap, ◌∙◌, subst, inl, arith}
 use Rattle.field.specs.Meaning.{FieldMeaning, FieldLaws}
 use Rattle.order.specs.declared.monomial.Monomial.{Monomial}
 use Rattle.order.specs.Monomials.{variables}
