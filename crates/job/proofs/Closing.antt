@@ -37,7 +37,7 @@ module _ (m : FieldMeaning) (cmp : Comparison) (O : OrderLaws cmp) (t : Table) w
     close_accepted made d size h e n ps made_is = changed m cmp O t close (accepted (d ∷ [])) u
         (λ laws K. let y = h laws K.sound.opens.0.1 K.sound.entered in ((o, y.0), ap (λ (x : ℕ). x ∷ []) (size ∙ y.1.size))) (λ laws K. e)
         (λ laws K x is. let y = h laws K.sound.opens.0.1 K.sound.entered in let same : made ≡ x = cc in
-            subst (λ (s : Polynomials). Holds m laws cmp u.n (held s) x) (sym ps) (subst (λ (k : ℕ). Holds m laws cmp k (held t.polynomials) x) (sym n) (subst (Holds m laws cmp t.n (held t.polynomials)) same y.1)))
+        subst (λ (s : Polynomials). Holds m laws cmp u.n (held s) x) (sym ps) (subst (λ (k : ℕ). Holds m laws cmp k (held t.polynomials) x) (sym n) (subst (Holds m laws cmp t.n (held t.polynomials)) same y.1)))
 
 -- a table is made by its fields alone
 pub same_table : (t : Table) (some : 1 ≤ t.n) (few : t.n ≤ 4) → record t { some = some; few = few } ≡ t

@@ -1,5 +1,5 @@
 -- What follows from the answer of a call: the run stays whole, and the job is again as calls leave it.
-use Rattle.std.proofs.Common.{◌≡◌, ℕ, Some, None, List, [], ◌∷◌, length, IsErrAnd, OnErr, Ok, Err, Result, sym, refl, ap, ◌∙◌, subst, inl, arith}
+use Rattle.std.proofs.Common.{◌≡◌, ℕ, Some, None, List, [], ◌∷◌, length, IsErrAnd, IsOk, OnOk, OnErr, Ok, Err, Result, sym, refl, ap, ◌∙◌, subst, inl, arith}
 use Rattle.field.specs.Meaning.{FieldMeaning, FieldLaws}
 use Rattle.order.specs.Laws.{Comparison, OrderLaws}
 use Rattle.runs.specs.Question.{Question, single, Refused}
@@ -79,3 +79,8 @@ no_members (x ∷ xs) e = absurd (omega arith)
 pub on_error : {A P : Type 0} (r : Result A JobFault) → P → OnErr r P
 on_error (Ok a) h = tt
 on_error (Err f) h = h
+
+-- what holds where a call is accepted, of one that is
+pub on_ok : {A E P : Type 0} (r : Result A E) → IsOk r → OnOk r P → P
+on_ok (Ok a) i h = h
+on_ok (Err f) i h = absurd (cc)

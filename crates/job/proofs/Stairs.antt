@@ -1,7 +1,7 @@
 -- The staircase of a closed job, as its tables hold it.
 use Rattle.std.proofs.Common.{◌≡◌, ℕ, pred, ◌-◌, ◌<◌, ◌≤◌, Bool, true, false, cond, ◌&&◌, ltb, leb, ◌≢◌, List, length, get_or, Some, None, Option, sym, ap, ◌∙◌, subst, ap₂, sub-one, arith}
 use native.Mathlib.Decide.{dec_lt}
-use Rattle.std.proofs.lemmas.List.{get_or-take, get_or-map}
+use Rattle.std.proofs.lemmas.List.{get_or-map}
 use Rattle.std.proofs.lemmas.Bool.{lt-ltb, le-ltb, le-leb, lt-leb}
 use Rattle.field.specs.Meaning.{FieldMeaning, FieldLaws}
 use Rattle.order.specs.declared.monomial.Monomial.{Monomial}
@@ -28,8 +28,8 @@ module _ (m : FieldMeaning) (laws : FieldLaws m) (cmp : Comparison) (j : Job) (t
       let within : i < length S = subst (λ (x : ℕ). i < x) H.size l in
       ap (λ (l : List Monomial). get_or l i record_of.one) H.stairs ∙ get_or-map (flat j.n) S i (one j.n) record_of.one within
 
-  pub stair_held : (p : ℕ) → p ≢ 0 → cond (ltb (p - 1) stair_count t) (Some (get_or t.stairs.items (p - 1) record_of.one)) None ≡ stair_of m laws cmp j p closed
-  stair_held p ne = go (dec_lt (p - 1) stair_count t)
+  pub stair_held : (p : ℕ) → p ≢ 0 → cond (ltb (p - 1) (stair_count t)) (Some (get_or t.stairs.items (p - 1) record_of.one)) None ≡ stair_of m laws cmp j p closed
+  stair_held p ne = go (dec_lt (p - 1) (stair_count t))
     where
       some : 1 ≤ p
       some = omega arith
@@ -37,7 +37,7 @@ module _ (m : FieldMeaning) (laws : FieldLaws m) (cmp : Comparison) (j : Job) (t
       pick : (b : Bool) (x : Option Monomial) → leb p d ≡ b → cond (leb 1 p && leb p d) x None ≡ cond b x None
       pick b x e = ap₂ (λ (u v : Bool). cond (u && v) x None) (le-leb 1 p some) e
 
-      go : Dec (p - 1 < stair_count t) → cond (ltb (p - 1) stair_count t) (Some (get_or t.stairs.items (p - 1) record_of.one)) None ≡ stair_of m laws cmp j p closed
+      go : Dec (p - 1 < stair_count t) → cond (ltb (p - 1) (stair_count t)) (Some (get_or t.stairs.items (p - 1) record_of.one)) None ≡ stair_of m laws cmp j p closed
       go (yes l) =
           let same : p - 1 ≡ pred p = sub-one p in
           let far : p ≤ d = omega (arith, H.size) in
@@ -45,6 +45,6 @@ module _ (m : FieldMeaning) (laws : FieldLaws m) (cmp : Comparison) (j : Job) (t
           ∙ ap Some (held (p - 1) l ∙ ap (λ (i : ℕ). flat j.n (stair_at m laws cmp j.n j.polynomials i)) same)
           ∙ sym (pick true (Some (flat j.n (stair_at m laws cmp j.n j.polynomials (pred p)))) (le-leb p d far))
       go (no l) =
-          let past : (stair_count t) ≤ p - 1 = omega arith in
+          let past : stair_count t ≤ p - 1 = omega arith in
           let far : d < p = omega (arith, H.size) in
           ap (λ (b : Bool). cond b (Some (get_or t.stairs.items (p - 1) record_of.one)) None) (le-ltb (p - 1) (stair_count t) past) ∙ sym (pick false (Some (flat j.n (stair_at m laws cmp j.n j.polynomials (pred p)))) (lt-leb p d far))

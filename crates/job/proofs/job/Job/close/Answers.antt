@@ -18,4 +18,4 @@ returns-in_err-tables-clause-refused_as_was g c = on_error c.from_residual-in_er
 
 pub returns-clause-promised : goal.returns-clause-promised
 returns-clause-promised g c =
-    close_accepted (g.F.Field.meaning c.args.self.now.field) (g.O.Order.meaning c.args.self.now.order) (g.met.O.Order.lawful c.args.self.now.order) c.args.self.now.table c.in_ok-ask_open.ensures _ c.in_ok-tables.tables c.size.result c.size.ensures c.in_ok-tables.ensures refl refl refl refl
+    close_accepted (g.F.Field.meaning c.args.self.now.field) (g.O.Order.meaning c.args.self.now.order) (g.met.O.Order.lawful c.args.self.now.order) c.args.self.now.table c.in_ok-ask_open.ensures _ c.in_ok-tables.tables c.size-size.result c.size-size.ensures c.in_ok-tables.ensures refl refl refl refl

@@ -5,7 +5,7 @@ use Rattle.polynomials.proofs.Stored.{length_terms}
 use Rattle.runs.specs.Enter.{enter_asks}
 use Rattle.runs.specs.Call.{enter, accepted}
 use Rattle.job.specs.State.{state}
-use Rattle.job.proofs.Promises.{no_tables, is_refused, broken, changed}
+use Rattle.job.proofs.Promises.{on_ok, no_tables, is_refused, broken, changed}
 use Rattle.job.proofs.job.Job.enter.Goals as goal
 
 pub returns-in_err-ask_enter : goal.returns-in_err-ask_enter
@@ -31,7 +31,7 @@ returns g c =
     let y = c.in_ok-ask_enter.ensures in
     let p = terms_of c.args.terms.now in
     let room : def.terms_held (held t.polynomials) + length c.args.terms.now ≤ def.most_terms = subst (λ (k : ℕ). def.terms_held (held t.polynomials) + k ≤ def.most_terms) (length_terms c.args.terms.now) y.1.1.1.0 in
-    let more : held c.push.new.self ≡ held t.polynomials ++ (p ∷ []) = c.push.ensures.pushed (c.push.ensures.answers.1 (y.1.0, room)) in
+    let more : held c.push.new.self ≡ held t.polynomials ++ (p ∷ []) = on_ok c.push.result (c.push.ensures.answers.1 (y.1.0, room)) c.push.ensures.pushed in
     record {
       asked = y;
       entered = ap (λ (ps : List (List def.Term)). record { n = t.n; polynomials = ps; stage = (state t).stage }) more;
