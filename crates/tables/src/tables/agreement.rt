@@ -56,6 +56,7 @@ impl Tables {
     fn commute<F: Field>(&self, field: &F, k: usize, l: usize) -> bool
         ensures { (laws : FieldLaws (F.Field.meaning field.now)) → StepsFit self.now k l → T result ↔ Commute (F.Field.meaning field.now) laws self.now k l }
     {
+        // A loop and not `all`: a closure over the range does not know what commute_at requires of i.
         for i in 0..self.size() {
             if !self.commute_at(field, k, l, i) {
                 return false;
@@ -68,6 +69,7 @@ impl Tables {
     fn commute_before<F: Field>(&self, field: &F, l: usize) -> bool
         ensures { (laws : FieldLaws (F.Field.meaning field.now)) (n : ℕ) → n ≤ variables → l < n → Ready self.now n → T result ↔ ((k : ℕ) → k < l → Commute (F.Field.meaning field.now) laws self.now k l) }
     {
+        // A loop: of `all`, that each call of the closure tells what Commute says stayed unproved.
         for k in 0..l {
             if !self.commute(field, k, l) {
                 return false;
@@ -80,6 +82,7 @@ impl Tables {
     pub(crate) fn agree<F: Field>(&self, field: &F, n: usize) -> bool
         ensures { (laws : FieldLaws (F.Field.meaning field.now)) (cmp : Comparison) (ps : List (List JobTerm)) → n ≤ variables → Holds (F.Field.meaning field.now) laws cmp n ps self.now → T result ↔ Agree (field_of (F.Field.meaning field.now) laws) n (before_by cmp n) (generators (F.Field.meaning field.now) laws n ps) }
     {
+        // A loop: of `all`, that each call of the closure tells what commute_before does stayed unproved.
         for l in 0..n {
             if !self.commute_before(field, l) {
                 return false;
