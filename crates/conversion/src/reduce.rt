@@ -1,6 +1,6 @@
 // Reduce of a closed job: question 23, then the words of the combination of the staircase that a
 // polynomial is congruent to. Nothing is written into the output before all of them stand.
-ghost use Rattle.std.specs.Prelude.{◌≡◌, ◌≤◌, List, OnErr, length, take, drop};
+ghost use Rattle.std.specs.Prelude.{◌≡◌, List, OnErr, length, take, drop};
 ghost use Rattle.field.specs.Meaning.{FieldLaws};
 ghost use Rattle.order.specs.Laws.{Comparison, OrderLaws};
 ghost use Rattle.runs.specs.Job as job;
@@ -14,15 +14,6 @@ use field::Field;
 use order::Monomial;
 use polynomials::{JobFault, Term};
 use tables::Tables;
-
-// The first words of `from` over those of `to`.
-fn put_front(from: &[u32], to: &mut [u32], count: usize)
-    requires { (count ≤ length from.now) × (count ≤ length to.old) }
-    ensures front { take count to.new ≡ take count from.now }
-    ensures rest_unchanged { drop count to.new ≡ drop count to.old }
-{
-    to[0..count].copy_from_slice(&from[0..count]);
-}
 
 // Writes the combination of staircase monomials that the polynomial in n variables is congruent to, a
 // word for each of them, at the front of the output.
@@ -45,6 +36,6 @@ pub fn reduce<F: Field>(
         return Err(JobFault::Variables);
     }
     let value = Matrices { field, tables, n }.evaluate(terms)?;
-    put_front(&value, out, d);
+    out[..d].copy_from_slice(&value[..d]);
     Ok(())
 }
