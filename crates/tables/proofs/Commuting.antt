@@ -6,6 +6,16 @@ use Rattle.std.proofs.lemmas.List.{get_or-set_same, get_or-set_other, length-tak
 use Rattle.std.proofs.lemmas.Grind.{get_or_default_zero}
 use Rattle.std.specs.Bool.{Decides}
 use mathlib.Core.Bool.{false≢true}
+use denote.Param.Members.{Mut}
+use Rattle.std.specs.declared.ops.Range.{Range}
+use Rattle.std.specs.Prelude.{Option, MatchOption}
+use Rattle.std.specs.Bool.{MatchBool}
+use Rattle.std.specs.Fn.{Called}
+use Rattle.std.specs.Iterator.{YieldsThen}
+use Rattle.std.specs.List.{FoldsTo, AllWithin, HoldsAt, range_with_len}
+use Rattle.std.proofs.iter.Yields.{nat_range_steps}
+use Rattle.std.proofs.lemmas.Iterator.{cases_from_all, YieldsList-from_range}
+use Rattle.std.proofs.lemmas.List.FromFn.{get_or-range_with_len, length-range_with_len}
 use Rattle.field.specs.Meaning.{FieldMeaning, FieldLaws}
 use Rattle.order.specs.Laws.{Comparison}
 use Rattle.algebra.specs.Field.{Field}
@@ -66,6 +76,22 @@ module _ (m : FieldMeaning) (z o i : ℕ) (is_zero : z ≡ m.zero) (is_one : o �
 pub tells : {P Q : Type 0} (b : Bool) → Decides b P → (P ↔ Q) → T b ↔ Q
 tells true d e = (λ _. e.0 (d.0 refl), λ _. tt)
 tells false d e = (λ f. absurd f, λ q. false≢true (d.1 (e.1 q)))
+
+-- `all` over the numbers below n tells whether each has what the test tells of it
+pub all_tell : {F : Type 0} {g : Mut F (ℕ × Unit {0}) Bool} {s : Range ℕ} (n : ℕ) (P : ℕ → Type 0) (u : Range ℕ) (f : F) (r : Bool)
+    → s ≡ record { start = 0; end = n }
+    → (xs : List ℕ) × (o : Option ℕ) × (j : F) × YieldsThen nat_range_steps s xs o u × FoldsTo (λ i x q. Called g i (x, tt) true q) f xs j
+    × MatchOption o (r ≡ true) (λ x. (r ≡ false) × ((h : F) × Called g j (x, tt) false h))
+    → ((x : ℕ) (b : Bool) (q : F) → Called g f (x, tt) b q → (q ≡ f) × (x < n → T b ↔ P x))
+    → T r ↔ ((k : ℕ) → k < n → P k)
+all_tell n P u f r e ran h = told r (cases_from_all u f r (λ k. k < n → P k) (λ k. k < n → P k → ⊥) ran (YieldsList-from_range 0 n n e (omega arith)) (λ x q c. let w = h x true q c in (w.0, λ l. (w.1 l).0 tt)) (λ x q c l p. ((h x false q c).1 l).1 p))
+  where
+    at : (j : ℕ) → j < n → get_or (range_with_len 0 n) j 0 ≡ j
+    at j l = get_or-range_with_len 0 n j 0 l ∙ omega arith
+
+    told : (r : Bool) → MatchBool r (AllWithin (λ k. k < n → P k) (range_with_len 0 n) 0 (length (range_with_len 0 n))) ((k : ℕ) × (k < length (range_with_len 0 n)) × HoldsAt (λ k. k < n → P k → ⊥) (range_with_len 0 n) k) → T r ↔ ((k : ℕ) → k < n → P k)
+    told true h = (λ _ k l. subst (λ k. k < n → P k) (at k l) (h k 0 (omega arith) (omega (arith, l, length-range_with_len 0 n))) l, λ _. tt)
+    told false h = let l : h.0 < n = omega (arith, h.1, length-range_with_len 0 n) in (λ f. absurd f, λ y. subst (λ k. k < n → P k → ⊥) (at h.0 l) (h.2 0) l (y h.0 l))
 
 -- the first words of two lists are the same where each is
 pub fronts_same : (d : ℕ) (a b : List ℕ) → d ≤ length a → d ≤ length b → (take d a ≡ take d b) ↔ ((j : ℕ) → j < d → get_or a j 0 ≡ get_or b j 0)

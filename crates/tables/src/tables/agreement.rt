@@ -1,6 +1,6 @@
 // The agreement of the multiplication matrices: any two of them commute, found column by column. Only
 // reads.
-ghost use Rattle.std.specs.Prelude.{◌≡◌, ℕ, ◌<◌, ◌≤◌, T, ◌↔◌, List};
+ghost use Rattle.std.specs.Prelude.{◌<◌, ◌≤◌, T, ◌↔◌, List};
 ghost use Rattle.field.specs.Meaning.{FieldLaws};
 ghost use Rattle.order.specs.Monomials.{variables};
 ghost use Rattle.order.specs.Laws.{Comparison};
@@ -9,8 +9,8 @@ ghost use Rattle.algebra.specs.Records.{before_by};
 ghost use Rattle.algebra.specs.Matrices.{Agree};
 ghost use Rattle.runs.specs.Job.{Term as JobTerm};
 ghost use Rattle.runs.specs.Generators.{generators};
-ghost use Rattle.tables.specs.Holds.{stair_count, Ready, Holds};
-ghost use Rattle.tables.specs.Agreeing.{ProductColumn, CommuteAt, Commute, StepsFit};
+ghost use Rattle.tables.specs.Holds.{stair_count, Holds};
+ghost use Rattle.tables.specs.Agreeing.{ProductColumn, DecidesCommuteAt, DecidesCommute, DecidesCommuteBefore};
 
 use crate::Tables;
 use field::Field;
@@ -40,7 +40,7 @@ impl Tables {
     // Whether column `i` of the product of the matrices of x_k and x_l is the same in both orders.
     fn commute_at<F: Field>(&self, field: &F, k: usize, l: usize, i: usize) -> bool
         requires { i < stair_count self.now }
-        ensures { (laws : FieldLaws (F.Field.meaning field.now)) → StepsFit self.now k l → T result ↔ CommuteAt (F.Field.meaning field.now) laws self.now k l i }
+        ensures { DecidesCommuteAt (F.Field.meaning field.now) self.now k l i result }
     {
         let d = self.size();
         let Ok(ahead) = self.product_column(field, k, l, i) else {
@@ -54,40 +54,22 @@ impl Tables {
 
     // Whether the matrices of x_k and x_l commute.
     fn commute<F: Field>(&self, field: &F, k: usize, l: usize) -> bool
-        ensures { (laws : FieldLaws (F.Field.meaning field.now)) → StepsFit self.now k l → T result ↔ Commute (F.Field.meaning field.now) laws self.now k l }
+        ensures { DecidesCommute (F.Field.meaning field.now) self.now k l result }
     {
-        // A loop and not `all`: a closure over the range does not know what commute_at requires of i.
-        for i in 0..self.size() {
-            if !self.commute_at(field, k, l, i) {
-                return false;
-            }
-        }
-        true
+        (0..self.size()).all(|i| self.commute_at(field, k, l, i))
     }
 
     // Whether the matrix of x_l commutes with that of each variable before it.
     fn commute_before<F: Field>(&self, field: &F, l: usize) -> bool
-        ensures { (laws : FieldLaws (F.Field.meaning field.now)) (n : ℕ) → n ≤ variables → l < n → Ready self.now n → T result ↔ ((k : ℕ) → k < l → Commute (F.Field.meaning field.now) laws self.now k l) }
+        ensures { DecidesCommuteBefore (F.Field.meaning field.now) self.now l result }
     {
-        // A loop: of `all`, that each call of the closure tells what Commute says stayed unproved.
-        for k in 0..l {
-            if !self.commute(field, k, l) {
-                return false;
-            }
-        }
-        true
+        (0..l).all(|k| self.commute(field, k, l))
     }
 
     // Whether the matrices of the first `n` variables agree: any two of them commute.
     pub(crate) fn agree<F: Field>(&self, field: &F, n: usize) -> bool
         ensures { (laws : FieldLaws (F.Field.meaning field.now)) (cmp : Comparison) (ps : List (List JobTerm)) → n ≤ variables → Holds (F.Field.meaning field.now) laws cmp n ps self.now → T result ↔ Agree (field_of (F.Field.meaning field.now) laws) n (before_by cmp n) (generators (F.Field.meaning field.now) laws n ps) }
     {
-        // A loop: of `all`, that each call of the closure tells what commute_before does stayed unproved.
-        for l in 0..n {
-            if !self.commute_before(field, l) {
-                return false;
-            }
-        }
-        true
+        (0..n).all(|l| self.commute_before(field, l))
     }
 }

@@ -1,11 +1,13 @@
-use Rattle.std.proofs.Common.{arith, below_more}
-use Rattle.tables.specs.Agreeing.{CommuteAt}
+use Rattle.std.proofs.Common.{rules}
+use Rattle.tables.specs.Holds.{stair_count}
+use Rattle.tables.specs.Agreeing.{CommuteAt, DecidesCommuteAt}
+use Rattle.tables.proofs.Commuting.{all_tell}
 use Rattle.tables.proofs.tables.Tables.commute.Goals as goal
 
-pub returns-then-not-commute_at : goal.returns-then-not-commute_at
-returns-then-not-commute_at g c laws fit = (λ f. absurd f, λ h. (c.if-not-commute_at.ensures laws fit).1 (h c.loop-i.i (omega arith)))
-
-pub loop-i-preserved : goal.loop-i-preserved
-loop-i-preserved g c laws fit =
-    below_more (CommuteAt (g.F.Field.meaning c.args.field.now) laws c.args.self.now c.args.k c.args.l) c.loop-i.i (c.loop-i.invariant laws fit)
-    ((c.if-not-commute_at.ensures laws fit).0 tt)
+pub returns : goal.returns
+returns g c =
+    let m = g.F.Field.meaning c.args.field.now in
+    let t = c.args.self.now in
+    record {
+      tells = λ laws fit. all_tell (stair_count t) (CommuteAt m laws t c.args.k c.args.l) _ _ _ (search rules) c.all.ensures.ran (λ x b q k. let w : DecidesCommuteAt m t c.args.k c.args.l x b = search rules in (search rules, λ _. w.tells laws fit));
+    }
