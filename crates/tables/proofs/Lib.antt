@@ -6,3 +6,4 @@ pub mod Edges
 pub mod Closing
 pub mod Commuting
 pub mod Asking
+pub mod Searching

@@ -4,6 +4,7 @@
 --   FirstLed ps t r              r is the first place of ps whose polynomial is led by t, or none where none is
 --   StandsBelow edges t k p      the quotient of t by x_k stands first at place p of edges
 --   NothingBelow edges t k       x_k does not divide t, or the quotient does not stand in edges
+--   BelowBy edges t k r          r has the variable k, and the place of the quotient of t by it; or that does not stand in edges
 --   LowestBelow n edges t r      r has the lowest of n variables whose quotient stands in edges, and its place; or none has
 --   ElementForms m n tab         every word of a normal form in the table is an element
 --   polys_of n ps                 the polynomials of the code's terms
@@ -15,7 +16,7 @@
 --   ColumnAdded                  then, where the columns before hold a table, r is no refusal and those after hold it with the normal form of that monomial added
 --   ColumnsMade                  then r is no refusal and the columns after hold the table of all border monomials
 -- Used by: the making of the columns.
-use Rattle.std.specs.Prelude.{◌≡◌, ℕ, ◌<◌, ◌≤◌, false, T, List, [], ◌∷◌, map, length, get_or, Some, None, Option, Result, IsOk, slice_index_or}
+use Rattle.std.specs.Prelude.{◌≡◌, ℕ, ◌<◌, ◌≤◌, false, T, List, [], ◌∷◌, map, length, get_or, Some, None, Option, MatchOption, Result, IsOk, slice_index_or}
 use Rattle.std.specs.List.{AllByRecursion}
 use Rattle.field.specs.Meaning.{FieldMeaning}
 use Rattle.order.specs.declared.monomial.Monomial.{Monomial}
@@ -52,6 +53,9 @@ StandsBelow edges t k p = (u : Monomial) × (lowered k t ≡ Some u) × FirstPla
 
 abbrev pub NothingBelow : List Monomial → Monomial → ℕ → Type 0
 NothingBelow edges t k = (u : Monomial) → lowered k t ≡ Some u → FirstPlace edges u None
+
+abbrev pub BelowBy : List Monomial → Monomial → ℕ → Option Below → Type 0
+BelowBy edges t k r = MatchOption r (NothingBelow edges t k) (λ b. (b.variable ≡ k) × StandsBelow edges t k b.place)
 
 abbrev pub LowestBelow : ℕ → List Monomial → Monomial → Option Below → Type 0
 LowestBelow n edges t (Some b) = (b.variable < n) × StandsBelow edges t b.variable b.place × ((j : ℕ) → j < b.variable → NothingBelow edges t j)

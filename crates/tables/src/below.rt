@@ -1,8 +1,8 @@
 // Which rule a border monomial falls under: the polynomial that it leads, or the border monomial
 // below it. Only reads.
-ghost use Rattle.std.specs.Prelude.{Decides, MatchOption};
+ghost use Rattle.std.specs.Prelude.{Decides};
 ghost use Rattle.polynomials.specs.Held.{entries};
-ghost use Rattle.tables.specs.Columns.{LedBy, FirstLed, StandsBelow, NothingBelow, LowestBelow};
+ghost use Rattle.tables.specs.Columns.{LedBy, FirstLed, BelowBy, LowestBelow};
 
 use order::Monomial;
 use polynomials::{Polynomials, Term};
@@ -29,21 +29,17 @@ pub(crate) fn led_by(polynomials: &Polynomials, t: Monomial) -> Option<usize>
     (0..polynomials.count()).position(|i| is_led_by(polynomials.polynomial(i), t))
 }
 
-// The place in `edges` of the quotient of `t` by the variable of index `k`.
-fn place_below(k: usize, edges: &[Monomial], t: Monomial) -> Option<usize>
-    ensures { MatchOption result (NothingBelow edges.now t k) (StandsBelow edges.now t k) }
+// The quotient of `t` by the variable of that index, where it stands in `edges`.
+fn divided(variable: usize, edges: &[Monomial], t: Monomial) -> Option<Below>
+    ensures { BelowBy edges.now t variable result }
 {
-    place_of(edges, t.lowered(k)?)
+    let place = place_of(edges, t.lowered(variable)?)?;
+    Some(Below { variable, place })
 }
 
 // The lowest of `n` variables that divides `t` with a quotient in `edges`, and the place of that.
 pub(crate) fn lowest_below(n: usize, edges: &[Monomial], t: Monomial) -> Option<Below>
     ensures { LowestBelow n edges.now t result }
 {
-    for variable in 0..n {
-        if let Some(place) = place_below(variable, edges, t) {
-            return Some(Below { variable, place });
-        }
-    }
-    None
+    (0..n).find_map(|variable| divided(variable, edges, t))
 }
