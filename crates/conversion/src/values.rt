@@ -32,6 +32,7 @@ impl<'a, F: Field> Matrices<'a, F> {
         ensures fits { OnErr result (¬ Ready self.now.tables.now self.now.n) }
         ensures acted { let m = F.Field.meaning self.now.field.now in let t = self.now.tables.now in OnOk result ((laws : FieldLaws m) (f : ℕ → Elem m) → Stands m (stair_count t) walk.old.vector f → Stands m (stair_count t) walk.new.vector (acts m laws t self.now.n monomial f)) }
     {
+        // Variables go by number: the matrix of x_k and the exponent of x_k are asked by k.
         for k in (0..self.n).rev() {
             self.raise(k, monomial.exponent(k), walk)?;
         }

@@ -13,20 +13,22 @@ ghost use Rattle.conversion.specs.Phases.{Half, Whole, ShapeAsked, RowsAsked, Ro
 use crate::powers::{Conversion, Walk};
 use crate::questions::{ask_independent, ask_length};
 use field::Field;
+use linear::elimination::Echelon;
 use linear::step::Misfit;
 use polynomials::JobFault;
 
 #[derive(Drop)]
 pub(crate) struct Work {
     walk: Walk,
+    // Flat, a vector every WIDTH words: the elimination of linear reads a family by its stride.
     vectors: [u32; 2304],
     sequence: [u32; 96],
-    table: [u32; 4608],
-    pivots: [usize; 48],
-    row: [u32; 96],
+    echelon: Echelon<48>,
+    // Three arrays and not one of rows: the recurrence of linear is lent each by its own meaning.
     connection: [u32; 97],
     previous: [u32; 97],
     spare: [u32; 97],
+    // Flat too: the contracts read a part of the sides, as one of the vectors, by the word it begins at.
     sides: [u32; 192],
 }
 
@@ -48,9 +50,7 @@ impl Work {
             walk: Walk::new(),
             vectors: [0; 2304],
             sequence: [0; 96],
-            table: [0; 4608],
-            pivots: [0; 48],
-            row: [0; 96],
+            echelon: Echelon::new(),
             connection: [0; 97],
             previous: [0; 97],
             spare: [0; 97],
@@ -63,13 +63,7 @@ impl Work {
         ensures { let m = F.Field.meaning by.now.matrices.field.now in (laws : FieldLaws m) → ShapeAsked m laws by.now.matrices.tables.now by.now.k by.now.r.now by.now.matrices.n self.new.sequence self.new.walk.vector result }
     {
         by.krylov(&mut self.walk, &mut self.vectors, &mut self.sequence)?;
-        ask_independent(
-            by,
-            &self.vectors,
-            &mut self.table,
-            &mut self.pivots,
-            &mut self.row,
-        )
+        ask_independent(by, &self.vectors, &mut self.echelon)
     }
 
     // 25, after 24.
@@ -98,20 +92,8 @@ impl Work {
         ensures rows { let m = F.Field.meaning by.now.matrices.field.now in let t = by.now.matrices.tables.now in (laws : FieldLaws m) → Ready t by.now.matrices.n → Whole m laws t by.now.k by.now.r.now self.old.sequence → Independent (field_of m laws) (stair_count t) (stair_count t) (hankel (field_of m laws) (measure m laws t by.now.k by.now.r.now (unit m laws))) → RowsWritten m laws t by.now.k by.now.r.now by.now.matrices.n self.old.connection out.new result }
     {
         by.right_sides(&mut self.walk, &mut self.sides)?;
-        by.take_table(
-            &self.sequence,
-            &mut self.table,
-            &mut self.pivots,
-            &mut self.row,
-        );
-        by.write_rows(
-            &self.connection,
-            &self.sides,
-            &self.table,
-            &self.pivots,
-            &mut self.row,
-            out,
-        );
+        by.take_table(&self.sequence, &mut self.echelon);
+        by.write_rows(&self.connection, &self.sides, &mut self.echelon, out);
         Ok(())
     }
 }

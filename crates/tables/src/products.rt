@@ -19,6 +19,7 @@ pub(crate) fn find_places(
     ensures { AllPlaceable n stairs.now edges.now → PlacesFound n stairs.now edges.now result }
 {
     let mut all = [Place::Stair(0); 192];
+    // By index: of places that were written through chunks_mut a proof knows only how many they are.
     for k in 0..n {
         places(k, stairs, edges, &mut all[k * STRIDE..k * STRIDE + STRIDE])?;
     }

@@ -16,6 +16,7 @@ pub mod matrix;
 #[derive(Drop)]
 pub struct Tables {
     stairs: ArrayVec<Monomial, 48>,
+    // Flat, a part every STRIDE: the step of linear is lent the columns whole, and reads them by stride.
     places: [Place; 192],
     columns: [u32; 9216],
     ghost few: { array_vec_len stairs ≤ 48 },
