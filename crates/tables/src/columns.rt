@@ -31,61 +31,74 @@ pub(crate) struct Frame<'a, F> {
     ghost placed: { length places.now ≡ 192 },
 }
 
-impl<'a, F: Field> Frame<'a, F> {
-    // The column at place `c` by the first rule, from the polynomial that its monomial leads.
-    fn lead_column(&self, terms: &[Term], c: usize, columns: &mut [u32; 9216]) -> Result<(), Misfit>
-        requires some { 0 < length terms.now }
-        requires place { c < length self.now.edges.now }
+// The border monomial at a place, and what its column is made from.
+#[derive(Drop)]
+struct Edge<'b, 'a, F> {
+    frame: &'b Frame<'a, F>,
+    place: usize,
+    ghost inside: { place < length frame.now.edges.now },
+}
+
+impl<'b, 'a, F: Field> Edge<'b, 'a, F> {
+    // Its column by the first rule, from the polynomial that its monomial leads.
+    fn lead_column(&self, terms: &[Term], columns: &mut [u32; 9216]) -> Result<(), Misfit>
+        requires { 0 < length terms.now }
         ensures fits { IsOk result }
-        ensures pasted { columns.new ≡ paste columns.old (c * 48) (opposite_words (F.Field.meaning self.now.field.now) (drop 1 terms.now) self.now.stairs.now) (length self.now.stairs.now) }
+        ensures pasted { columns.new ≡ paste columns.old (self.now.place * 48) (opposite_words (F.Field.meaning self.now.frame.now.field.now) (drop 1 terms.now) self.now.frame.now.stairs.now) (length self.now.frame.now.stairs.now) }
     {
-        let start = c * STRIDE;
+        let start = self.place * STRIDE;
         opposite_column(
-            self.field,
+            self.frame.field,
             &terms[1..],
-            self.stairs,
-            &mut columns[start..start + self.stairs.len()],
+            self.frame.stairs,
+            &mut columns[start..start + self.frame.stairs.len()],
         )
     }
 
-    // The column at place `c` by the second rule, from the column of the border monomial below.
-    fn step_column(&self, c: usize, columns: &mut [u32; 9216]) -> Result<(), Misfit>
-        requires { c < length self.now.edges.now }
-        ensures { ColumnSteppedBelow (F.Field.meaning self.now.field.now) self.now.n (length self.now.stairs.now) self.now.edges.now self.now.places.now c columns.old columns.new result }
+    // Its column by the second rule, from the column of the border monomial below.
+    fn step_column(&self, columns: &mut [u32; 9216]) -> Result<(), Misfit>
+        ensures { ColumnSteppedBelow (F.Field.meaning self.now.frame.now.field.now) self.now.frame.now.n (length self.now.frame.now.stairs.now) self.now.frame.now.edges.now self.now.frame.now.places.now self.now.place columns.old columns.new result }
     {
-        let below = lowest_below(self.n, self.edges, self.edges[c]).ok_or(Misfit)?;
+        let t = self.frame.edges[self.place];
+        let below = lowest_below(self.frame.n, self.frame.edges, t).ok_or(Misfit)?;
         let start = below.variable * STRIDE;
         let mut out = [0; 48];
         next_column(
-            self.field,
-            self.stairs.len(),
-            &self.places[start..start + STRIDE],
+            self.frame.field,
+            self.frame.stairs.len(),
+            &self.frame.places[start..start + STRIDE],
             columns,
             STRIDE,
             below.place,
-            c,
+            self.place,
             &mut out,
         )
     }
 
-    // The column at place `c` by the rule that its monomial falls under.
-    fn fill_column(&self, c: usize, columns: &mut [u32; 9216]) -> Result<(), Misfit>
-        requires { c < length self.now.edges.now }
-        ensures { ColumnAdded (F.Field.meaning self.now.field.now) self.now.n (entries self.now.polynomials.now) self.now.stairs.now self.now.edges.now self.now.places.now c columns.old columns.new result }
+    // Its column by the rule that its monomial falls under.
+    fn fill_column(&self, columns: &mut [u32; 9216]) -> Result<(), Misfit>
+        ensures { ColumnAdded (F.Field.meaning self.now.frame.now.field.now) self.now.frame.now.n (entries self.now.frame.now.polynomials.now) self.now.frame.now.stairs.now self.now.frame.now.edges.now self.now.frame.now.places.now self.now.place columns.old columns.new result }
     {
-        match led_by(self.polynomials, self.edges[c]) {
-            Some(i) => self.lead_column(self.polynomials.polynomial(i), c, columns),
-            None => self.step_column(c, columns),
+        match led_by(self.frame.polynomials, self.frame.edges[self.place]) {
+            Some(i) => self.lead_column(self.frame.polynomials.polynomial(i), columns),
+            None => self.step_column(columns),
         }
     }
+}
 
+impl<'a, F: Field> Frame<'a, F> {
     // The columns of all border monomials, in their order: refused where one falls under no rule.
     pub(crate) fn fill_columns(&self, columns: &mut [u32; 9216]) -> Result<(), Misfit>
         ensures { ColumnsMade (F.Field.meaning self.now.field.now) self.now.n (entries self.now.polynomials.now) self.now.stairs.now self.now.edges.now self.now.places.now columns.new result }
     {
         columns.fill(self.field.zero());
+        // By number: an edge is its place, by which the monomial and the column are both asked for.
         for c in 0..self.edges.len() {
-            self.fill_column(c, columns)?;
+            let edge = Edge {
+                frame: self,
+                place: c,
+            };
+            edge.fill_column(columns)?;
         }
         Ok(())
     }
