@@ -1,7 +1,8 @@
 -- Terms as the code reads them, and as a job has them.
-use Rattle.std.proofs.Common.{◌≡◌, ℕ, zero, suc, ◌+◌, ◌-◌, ◌<◌, ◌≤◌, List, [], ◌∷◌, map, length, get_or, drop, zip, length-drop, Less, sym, refl, ap, ap₂, ◌∙◌, subst, arith}
+use Rattle.std.proofs.Common.{◌≡◌, ℕ, zero, suc, ◌+◌, ◌-◌, ◌<◌, ◌≤◌, List, [], ◌∷◌, ◌++◌, map, length, get_or, drop, zip, length-drop, Less, sym, refl, ap, ap₂, ◌∙◌, subst, arith, length-append}
 use Rattle.std.specs.List.{AllWithin, HoldsAt}
-use Rattle.std.proofs.lemmas.List.{get_or-map}
+use lib.ListN.{length-map}
+use Rattle.std.proofs.lemmas.List.{get_or-map, append_assoc}
 use Rattle.std.proofs.lemmas.Grind.{get_or_after_one}
 use Rattle.std.proofs.lemmas.Slice.Zip.{length-zip, get_or-zip}
 use Rattle.order.specs.declared.monomial.Monomial.{Monomial}
@@ -12,10 +13,11 @@ use Rattle.runs.specs.Job as job
 use Rattle.runs.specs.Job.{coefficient_at, monomial_at}
 use Rattle.runs.specs.Enter.{Falls}
 use Rattle.staircase.specs.declared.rules.Term.{Term}
-use Rattle.polynomials.specs.Held.{terms_of}
+use Rattle.polynomials.specs.declared.store.Polynomials.{Polynomials}
+use Rattle.polynomials.specs.Held.{terms_of, held}
 use Rattle.polynomials.specs.Leads.{lead_of, leads_of}
 use Rattle.polynomials.proofs.Answering.{each_yes, each_no}
-use Rattle.polynomials.proofs.Stored.{length_terms}
+use Rattle.polynomials.proofs.Stored.{length_terms, few_held}
 
 module _ (ts : List Term) (i : ℕ) (h : i < length ts) (d : Term) where
   term_read : get_or (terms_of ts) i (0, one) ≡ ((get_or ts i d).coefficient, (get_or ts i d).monomial)
@@ -89,10 +91,13 @@ held_at [] i = refl
 held_at (e ∷ es) zero = refl
 held_at (e ∷ es) (suc i) = held_at es i
 
-pub lead_at : (ps : List (List job.Term)) (i : ℕ) → get_or (leads_of ps) i one ≡ lead_of (get_or ps i [])
-lead_at [] i = refl
-lead_at (p ∷ ps) zero = refl
-lead_at (p ∷ ps) (suc i) = lead_at ps i
-
 pub read_held : (es : List (List Term)) (i : ℕ) (ts : List Term) → ts ≡ get_or es i [] → terms_of ts ≡ get_or (map terms_of es) i []
 read_held es i ts e = ap terms_of e ∙ sym (held_at es i)
+
+-- the leading monomials of those that are left follow those of the polynomials before
+
+pub leads_room : (s : Polynomials) (ls : List Monomial) (es fs : List (List Term)) (p : List Term) → es ≡ p ∷ fs → ls ++ leads_of (map terms_of es) ≡ leads_of (held s) → length ls < 48
+leads_room s ls es fs p e h = omega (arith, few_held s, length-map (held s) lead_of, ap length h, length-append ls (leads_of (map terms_of es)), ap (λ (xs : List (List Term)). length (leads_of (map terms_of xs))) e)
+
+pub leads_more : (ls : List Monomial) (es fs : List (List Term)) (p : List Term) (all : List Monomial) → es ≡ p ∷ fs → ls ++ leads_of (map terms_of es) ≡ all → (ls ++ lead_of (terms_of p) ∷ []) ++ leads_of (map terms_of fs) ≡ all
+leads_more ls es fs p all e h = append_assoc ls (lead_of (terms_of p) ∷ []) (leads_of (map terms_of fs)) ∙ ap (λ (xs : List (List Term)). ls ++ leads_of (map terms_of xs)) (sym e) ∙ h

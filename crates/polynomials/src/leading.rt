@@ -110,8 +110,8 @@ impl Polynomials {
         ensures { result.items ≡ leads_of (held self.now) }
     {
         let mut leads = ArrayVec::new();
-        for i in 0..self.count() {
-            leads.push(first_monomial(self.polynomial(i)));
+        for terms in self.iter() {
+            leads.push(first_monomial(terms));
         }
         leads
     }

@@ -3,10 +3,12 @@
 #![tactic(auto)]
 
 pub mod fault;
+pub mod iter;
 pub mod leading;
 pub mod questions;
 pub mod store;
 
 pub use fault::JobFault;
+pub use iter::Entries;
 pub use staircase::Term;
 pub use store::Polynomials;
