@@ -78,9 +78,9 @@ some_terms [] i h = absurd (omega arith)
 some_terms (p ∷ ps) zero h = omega arith
 some_terms (p ∷ ps) (suc i) h = omega (arith, some_terms ps i (omega arith))
 
-module _ (s : Polynomials) (n : ℕ) (i : ℕ) (p : List Term) (h : i < length (held s)) (is : p ≡ get_or (entries s) i []) where
+module _ (s : Polynomials) (n : ℕ) (i : ℕ) (p : List Term) (h : i < length (held s)) (d : List Term) (is : p ≡ get_or (entries s) i d) where
   here : get_or (held s) i [] ≡ terms_of p
-  here = get_or-map terms_of (entries s) i [] [] (omega (arith, length-map (entries s) terms_of)) ∙ ap terms_of (sym is)
+  here = get_or-map terms_of (entries s) i d [] (omega (arith, length-map (entries s) terms_of)) ∙ ap terms_of (sym is)
 
   pub entry_few : length p ≤ 1024
   entry_few = omega (arith, length_terms p, ap length here, some_terms (held s) i h, few_terms s)

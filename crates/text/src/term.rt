@@ -24,10 +24,12 @@ fn clamp(word: u32) -> u8
 pub(crate) fn term_of(words: &[u32]) -> Term
     ensures { (result.coefficient, result.monomial) ≡ clamped (term words.now) }
 {
-    let mut monomial = Monomial::one();
-    for k in 0..Monomial::VARIABLES {
-        monomial = monomial.with_exponent(k, clamp(word_at(words, k + 1)));
-    }
+    let monomial = Monomial {
+        x1: clamp(word_at(words, 1)),
+        x2: clamp(word_at(words, 2)),
+        x3: clamp(word_at(words, 3)),
+        x4: clamp(word_at(words, 4)),
+    };
     Term {
         coefficient: word_at(words, 0),
         monomial,

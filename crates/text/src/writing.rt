@@ -35,8 +35,8 @@ fn text_length(polynomials: &Polynomials, n: usize) -> usize
 {
     let term_line = COLUMN * (n + 1) + 1;
     let mut length = HEADER_LINE;
-    for i in 0..polynomials.count() {
-        length += COUNT_LINE + polynomials.polynomial(i).len() * term_line;
+    for terms in polynomials.iter() {
+        length += COUNT_LINE + terms.len() * term_line;
     }
     length
 }
@@ -108,8 +108,8 @@ fn put_polynomials(polynomials: &Polynomials, n: usize, out: &mut [u8], at: usiz
     ensures bytes { out.new ≡ put out.old at (flat_map (polynomial_text n) (held polynomials.now)) }
 {
     let mut end = at;
-    for i in 0..polynomials.count() {
-        end = put_polynomial(polynomials.polynomial(i), n, out, end);
+    for terms in polynomials.iter() {
+        end = put_polynomial(terms, n, out, end);
     }
     end
 }
