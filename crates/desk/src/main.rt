@@ -108,6 +108,7 @@ fn reduce<F: Field, O: Order>(
 }
 
 fn stairs<F: Field, O: Order>(rt: &HostRuntime, job: &Job<F, O>) -> io::Result<()> {
+    // Places past the last stair are asked as well, so no list holds what is gone over.
     for place in 0..5 {
         match job.stair(place) {
             Some(m) => {

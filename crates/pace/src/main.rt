@@ -86,6 +86,8 @@ fn main(rt: HostRuntime) -> io::Result<()> {
     let Ok((code, _, n, _)) = header(text) else {
         return println!(rt; "no header");
     };
+    // The code is a word of the text, 0 or any prime: an enum with one case and a number is no plainer.
+    // A word fits a usize: `as` keeps it, and Rust has no `From` there.
     if code == 0 {
         return run(&rt, ByteField, n as usize, text, turns);
     }

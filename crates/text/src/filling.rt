@@ -79,6 +79,7 @@ pub fn fill<F: Field, O: Order>(job: &mut Job<F, O>, bytes: &[u8]) -> Result<usi
         return Err(TextFault::NotEmpty);
     }
     let (_, _, n, count) = header(bytes)?;
+    // A word fits a usize: `as` keeps it, and Rust has no `From` there.
     if n as usize != job.variables() {
         return Err(TextFault::OtherVariables);
     }

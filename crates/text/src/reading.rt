@@ -23,6 +23,7 @@ pub(crate) fn read_count(bytes: &[u8], place: Place) -> Result<(usize, Place), T
 {
     let mut words = [0u32; 1];
     let next = next_line(bytes, place, &mut words)?;
+    // A word fits a usize: `as` keeps it, and Rust has no `From` there.
     Ok((words[0] as usize, next))
 }
 

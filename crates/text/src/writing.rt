@@ -94,6 +94,7 @@ fn put_polynomial(terms: &[Term], n: usize, out: &mut [u8], at: usize) -> usize
     ensures place_after { result ≡ at + polynomial_size n (terms_of terms.now) }
     ensures bytes { out.new ≡ put out.old at (polynomial_text n (terms_of terms.now)) }
 {
+    // At most 1024 terms: `as` keeps their number, and Rust has no `From` there.
     let first = put_line(out, at, &[terms.len() as u32]);
     put_terms(terms, n, out, first)
 }
@@ -115,6 +116,7 @@ fn put_polynomials(polynomials: &Polynomials, n: usize, out: &mut [u8], at: usiz
 }
 
 // Writes the text of the polynomials in n variables at the front of `out` and answers its length.
+// The codes are numbers and no enum: a caller's own are written as they are, so no kind is known here.
 fn write_text(
     polynomials: &Polynomials,
     n: usize,
@@ -130,12 +132,13 @@ fn write_text(
         return Err(JobFault::ShortOutput);
     }
     let count = polynomials.count();
+    // Four variables and 48 polynomials at most: `as` keeps both, and Rust has no `From` there.
     let first = put_line(out, 0, &[field_code, order_code, n as u32, count as u32]);
     Ok(put_polynomials(polynomials, n, out, first))
 }
 
 // Writes the basis text of the job's polynomials, with these codes of field and order, at the front of
-// `out` and answers its length.
+// `out` and answers its length. Any two codes are written as they are, so that no kind is known here.
 pub fn write<F: Field, O: Order>(
     job: &Job<F, O>,
     field_code: u32,
