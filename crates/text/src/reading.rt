@@ -27,26 +27,8 @@ pub(crate) fn read_count(bytes: &[u8], place: Place) -> Result<(usize, Place), T
     Ok((words[0] as usize, next))
 }
 
-// Reads term lines of as many columns as there are words from a place on, one for each of the terms,
-// and answers the place after them.
-fn read_lines(
-    bytes: &[u8],
-    place: Place,
-    words: &mut [u32],
-    terms: &mut [Term],
-) -> Result<Place, TextFault>
-    requires { place.at ≤ length bytes.now }
-    ensures { TermsRead bytes.now (length words.old) (length terms.old) place terms.new result }
-{
-    let mut here = place;
-    for term in terms.iter_mut() {
-        here = next_line(bytes, here, words)?;
-        *term = term_of(words);
-    }
-    Ok(here)
-}
-
-// Reads the lines of terms in n variables.
+// Reads the lines of terms in n variables from a place on, one for each of the terms, and answers the
+// place after them.
 pub(crate) fn read_terms(
     bytes: &[u8],
     place: Place,
@@ -57,6 +39,12 @@ pub(crate) fn read_terms(
     requires few { n ≤ variables }
     ensures { TermsRead bytes.now (suc n) (length terms.old) place terms.new result }
 {
-    let mut words = [0u32; 5];
-    read_lines(bytes, place, &mut words[..n + 1], terms)
+    let mut line = [0u32; 5];
+    let words = &mut line[..n + 1];
+    let mut here = place;
+    for term in terms.iter_mut() {
+        here = next_line(bytes, here, words)?;
+        *term = term_of(words);
+    }
+    Ok(here)
 }
