@@ -18,6 +18,7 @@ pub enum LineFault {
 
 impl LineFault {
     // The number of the refusal.
+    // Like that of other faults in shape alone: each is a table of its own cases and numbers.
     pub fn number(self) -> u32
         ensures { result ≡ fault_number self }
     {
@@ -29,6 +30,7 @@ impl LineFault {
 }
 
 // Whether a line of so many columns fits between a place and the end.
+// No slice for `count`: it counts columns to come, and not the bytes that are lent.
 fn line_fits(out: &[u8], at: usize, count: usize) -> bool
     ensures { result ≡ nat_le (at + line_length count) (length out.now) }
 {
@@ -43,6 +45,7 @@ fn first_newline(bytes: &[u8]) -> Option<usize>
 }
 
 // Whether the first byte 10 from a place on stands right after so many columns.
+// No slice for `count`: it counts columns that the line must have, and not the bytes that are lent.
 fn ends_after(bytes: &[u8], at: usize, count: usize) -> bool
     ensures test { result ≡ exact count (drop at bytes.now) }
     ensures room { result ≡ true → at + line_length count ≤ length bytes.now }

@@ -63,6 +63,7 @@ fn column_of(number: u32) -> [u8; WIDTH]
     let mut bytes = [b' '; WIDTH];
     let mut rest = number;
     let mut place = WIDTH;
+    // A loop: how many digits there are is known at the last. `as`: no digit is too large for a byte.
     while rest >= 10 {
         place -= 1;
         bytes[place] = b'0' + (rest % 10) as u8;

@@ -5,6 +5,7 @@ ghost use Rattle.std.specs.Prelude.{◌≡◌, ◌+◌, ◌≤◌, length, IfOk}
 use crate::line::{LineFault, read_line};
 
 // The first byte of a line, and the number of the line, from 1.
+// Not one with linear's `Place`: that one is the place of a product, and has no line and no bytes.
 #[derive(Clone, Copy, PartialEq, Eq, Debug)]
 pub struct Place {
     pub at: usize,

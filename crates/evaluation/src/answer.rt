@@ -37,6 +37,7 @@ fn answer_basis<F: Field>(
     let point = &mut words[..n];
     let last = end.read(point)?;
     if let Some(word) = first_no_element(field, point) {
+        // `as`: there is no From<usize> for u32, and a place among four words is small.
         return Err(ProbeFault::Point(end.line(), word as u32 + 1));
     }
     if last.place.at < header.text.len() {
@@ -45,6 +46,7 @@ fn answer_basis<F: Field>(
     Ok(write_values(field, first.lines(), header.count, point, out))
 }
 
+// The library's range under one name, since two questions ask it.
 fn one_to_four(w: u32) -> bool
     ensures { result ≡ one_to_four w }
 {
@@ -65,6 +67,7 @@ fn answer_header<F: Field>(
     if !one_to_four(header.n) {
         return Err(ProbeFault::Variables);
     }
+    // `as`: there is no From<u32> for usize, and the number is at most four.
     answer_basis(field, header, header.n as usize, out)
 }
 
@@ -87,6 +90,7 @@ fn answer_text(text: &[u8], out: &mut [u8; LONGEST_TEXT]) -> Result<usize, Probe
         n,
         count,
     };
+    // A number: the code says which type the field has, and above 0 it is the modulus itself.
     if code == 0 {
         return answer_header(&ByteField, header, out);
     }

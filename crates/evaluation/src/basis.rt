@@ -14,6 +14,7 @@ use field::Field;
 fn ask_terms<F: Field>(field: &F, terms: Terms<'_>, line: u32) -> Result<(), ProbeFault>
     ensures { refusal_of result ≡ asks_terms (F.Field.meaning field.now) terms.entry.n (terms_of terms.entry) line }
 {
+    // `as`, here and below: there is no From<usize> for u32, and terms are counted by a u32.
     if let Some(term) = first_bad_coefficient(field, terms) {
         return Err(ProbeFault::Coefficient(line, term as u32 + 1));
     }
@@ -56,6 +57,7 @@ pub(crate) fn ask_polynomials<'a, F: Field>(
         (λ e. asks_polynomials (F.Field.meaning field.now) reader.entry.n count (drop reader.entry.place.at reader.entry.text.now) reader.entry.place.line ≡ Some e) }
 {
     let mut here = reader;
+    // Over no items: the polynomials are only in the text, each where the one before ends.
     for _i in 0..count {
         here = ask_polynomial(field, here)?;
     }

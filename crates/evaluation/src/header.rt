@@ -9,6 +9,7 @@ use column::Place;
 pub(crate) struct Header<'a> {
     pub text: &'a [u8],
     pub end: Place,
+    // a number: the order's code is asked and never used, so that an order's type would name nothing here
     pub order: u32,
     pub n: u32,
     pub count: u32,

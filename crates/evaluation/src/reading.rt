@@ -24,6 +24,7 @@ impl<'a> Reader<'a> {
     pub fn line(self) -> u32
         ensures { result ≡ self.entry.place.line }
     {
+        // `as`: there is no From<usize> for u32, and a short text has few lines.
         self.place.line as u32
     }
 
@@ -53,6 +54,7 @@ impl<'a> Reader<'a> {
     {
         let mut words = [0u32; 5];
         let mut here = self;
+        // Over no items: the lines are only in the text, each where the one before ends.
         for _i in 0..count {
             here = here.read(&mut words[..=self.n])?;
         }

@@ -32,6 +32,7 @@ impl<'a> Lines<'a> {
         ensures text { result.text.now ≡ self.entry.text.now }
         ensures rest { drop result.at result.text.now ≡ after_lines columns count (drop self.entry.at self.entry.text.now) }
     {
+        // `as`: there is no From<u32> for usize, and no u32 is too large for one.
         let bytes = count as usize * (11 * columns + 1);
         Lines {
             text: self.text,

@@ -9,11 +9,13 @@ pub mod field;
 pub struct ByteField;
 
 // The product of the polynomials `a` and `b`.
+// Words below 256 and not u8: the words of a field are u32, and each call would convert there and back.
 fn multiplied(a: u32, b: u32) -> u32
     requires { (a < 256) × (b < 256) }
     ensures { (result ≡ poly_product 8 a b) × (result < 2 ^ 16) }
 {
     let mut r: u32 = 0;
+    // Over no items: `i` is the power of x whose coefficient is read.
     for i in (0..8u32).rev() {
         r = ((b >> i) % 2 * a) ^ (r * 2);
     }
@@ -26,6 +28,7 @@ fn reduced(n: u32) -> u32
     ensures { result ≡ poly_remainder 7 n }
 {
     let mut r = n;
+    // Over no items: `k` is the power of x by which the modulus is shifted.
     for k in (0..7u32).rev() {
         r ^= (r >> (8 + k)) % 2 * (283 << k);
     }

@@ -103,6 +103,7 @@ impl<const ROWS: usize> Echelon<ROWS> {
     // Writes into the work row what the first `count` rows leave of a vector, and after it, up to
     // `width` words, the coordinates of what they added to it. Answers the first place where something
     // is left.
+    // `count` is of rows of its own, and `width` of words of the row to work in: no slice lends either.
     fn remainder<F: Field>(
         &mut self,
         field: &F,
@@ -167,6 +168,7 @@ impl<const ROWS: usize> Echelon<ROWS> {
         ) {
             return Err(EliminateFault::NoRoom);
         }
+        // By number: `take` wants the number of the vector, and the rows before it.
         for n in 0..family.count {
             self.take(field, family, n)?;
         }

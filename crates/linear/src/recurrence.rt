@@ -118,6 +118,7 @@ fn shortest<F: Field>(
         lag: 1,
         miss: field.one(),
     };
+    // By number: each turn reads all words up to the word n.
     for n in 0..s.len() {
         stage = turn(field, s, n, c, b, spare, stage);
     }

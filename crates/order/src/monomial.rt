@@ -18,6 +18,7 @@ impl Monomial {
     pub const LARGEST: u8 = 255;
 
     // The monomial 1.
+    // Not `default()`: a constant calls no method of a trait.
     pub const ONE: Monomial = Monomial {
         x1: 0,
         x2: 0,
@@ -33,6 +34,7 @@ impl Monomial {
     }
 
     // 0 where `k` is no variable.
+    // By the number: the rule of the project is a record of four exponents, and no array.
     #[tactic(auto, unfolding(crate::specs::Monomials::exponent))]
     pub fn exponent(self, k: usize) -> u8
         ensures { result ≡ def.exponent self k }
@@ -61,6 +63,7 @@ impl Monomial {
     }
 
     // The same monomial where `k` is no variable.
+    // By the number, as `exponent`: the rule of the project is a record, and no array.
     #[tactic(auto, using(crate::specs::Exponents::with_past), unfolding(crate::specs::Monomials::with_exponent, crate::specs::Monomials::monomial, crate::specs::Monomials::exponent))]
     pub fn with_exponent(self, k: usize, e: u8) -> Monomial
         ensures { result ≡ def.with_exponent k e self }

@@ -61,6 +61,7 @@ impl Rearrangement {
     }
 
     // The place of the variable of index `k`; 0 where `k` is no variable.
+    // By the number: the rule of the project is a record of four places, and no array.
     #[tactic(auto, unfolding(crate::specs::Rearrangements::place))]
     fn place(self, k: usize) -> u8
         ensures { result ≡ def.place self k }
@@ -95,6 +96,7 @@ impl Rearrangement {
     }
 }
 
+// The library's range under a name of its own, that of its definition.
 fn in_range(place: u8) -> bool
     ensures { result ≡ def.in_range place }
 {

@@ -25,4 +25,5 @@ impl<O: Copy> Clone for Renumbered<O> {
     }
 }
 
+// By hand, as `Clone` is.
 impl<O: Copy> Copy for Renumbered<O> {}

@@ -52,6 +52,7 @@ pub fn border<O: Order, const CAP: usize>(
     ensures { Raisable n stairs.now → BorderAnswer (O.Order.meaning order.now) n stairs.now CAP result }
 {
     let mut edges = ArrayVec::new();
+    // By number: a variable has no other name.
     for k in 0..n {
         add_products(order, k, stairs, &mut edges)?;
     }

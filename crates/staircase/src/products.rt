@@ -20,6 +20,7 @@ fn product_place(k: usize, stairs: &[Monomial], edges: &[Monomial], m: Monomial)
     ensures { MatchOption result ((t : Record) → def.raised k m ≡ Some t → Has stairs.now t ⊎ Has edges.now t → ⊥) (λ p. (t : Record) × (def.raised k m ≡ Some t) × StandsAt stairs.now edges.now t p) }
 {
     let t = m.raised(k)?;
+    // `as`: there is no From<usize> for u8, and of `try_from` the refusal would never come.
     match place_of(stairs, t) {
         Some(p) => Some(Place::Stair(p as u8)),
         None => Some(Place::Border(place_of(edges, t)? as u8)),

@@ -37,6 +37,7 @@ fn grow<const CAP: usize>(
     requires within { Within n m }
     ensures { MatchResult result (λ _. Grown n leads.now found.old.items m n found.new.items) (λ _. (l : List Record) × (length l ≡ CAP + 1) × Good n leads.now l) }
 {
+    // By number: a variable has no other name.
     for k in 0..n {
         let Some(t) = m.raised(k) else {
             continue;

@@ -30,6 +30,7 @@ impl Field for Residue {
 
     fn add(&self, a: u32, b: u32) -> u32 {
         if self.contains(a) && self.contains(b) {
+            // `as`: a remainder by a u32 is one, and of `try_from` the refusal would never come.
             ((u64::from(a) + u64::from(b)) % u64::from(self.p)) as u32
         } else {
             0
@@ -38,6 +39,7 @@ impl Field for Residue {
 
     fn mul(&self, a: u32, b: u32) -> u32 {
         if self.contains(a) && self.contains(b) {
+            // `as`: a remainder by a u32 is one, and of `try_from` the refusal would never come.
             (u64::from(a) * u64::from(b) % u64::from(self.p)) as u32
         } else {
             0
@@ -71,6 +73,7 @@ fn inverse_modulo(p: u32, a: u32) -> u32
         1
     } else {
         let s = inverse_modulo(p, p % a);
+        // `as`: a remainder by a u32 is one, and of `try_from` the refusal would never come.
         (u64::from(p / a) * u64::from(p - s) % u64::from(p)) as u32
     }
 }
