@@ -7,7 +7,7 @@ use field::{ByteField, Field, Residue};
 use linear::dot::dot;
 use linear::elimination::{Echelon, EliminateFault, Family, SolveFault};
 use linear::recurrence::recurrence_length;
-use linear::step::{Misfit, Place, step};
+use linear::step::{Matrix, Misfit, Place, step};
 use std::io;
 
 // The matrix of a variable over a staircase of three monomials 1, x, y: x times 1 is x, the other two
@@ -27,12 +27,17 @@ fn walk<F: Field>(
     vectors: &mut [u32; 18],
     words: &mut [u32; STEPS],
 ) -> Result<(), Misfit> {
+    let matrix = Matrix {
+        places: &PLACES,
+        columns,
+        stride: SIZE,
+    };
     let mut v = start;
     for (vector, word) in vectors.chunks_exact_mut(SIZE).zip(words) {
         vector.copy_from_slice(&v);
         *word = dot(field, r, &v);
         let mut next = [0; SIZE];
-        step(field, SIZE, &PLACES, columns, SIZE, &v, &mut next)?;
+        step(field, SIZE, matrix, &v, &mut next)?;
         v = next;
     }
     Ok(())

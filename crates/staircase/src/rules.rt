@@ -10,7 +10,7 @@ ghost use Rattle.staircase.specs.Rules.{poly_of, opposite_words, OppositesRule};
 ghost use Rattle.staircase.specs.Steps.{StepsReplace, ColumnMore, ColumnsNone, Steppable, ColumnStepped};
 
 use field::Field;
-use linear::step::{Misfit, Place, step};
+use linear::step::{Matrix, Misfit, Place, step};
 use order::Monomial;
 
 // A word times a monomial.
@@ -74,6 +74,7 @@ fn column_start(c: usize, d: usize, room: usize, stride: usize) -> Option<usize>
 // The column at place `to` by the second rule: the matrix of a variable, whose products stand at
 // `places`, times the column at place `from`. `out` is room to work in; an error, and no column is
 // written, where something does not fit.
+// `d` beside the lists, as in `step`; no `Matrix`, since the columns are written too.
 pub fn next_column<F: Field>(
     field: &F,
     d: usize,
@@ -92,7 +93,12 @@ pub fn next_column<F: Field>(
     let start = column_start(from, d, columns.len(), stride).ok_or(Misfit)?;
     let at = column_start(to, d, columns.len(), stride).ok_or(Misfit)?;
     let held = &columns[..];
-    step(field, d, places, held, stride, &held[start..start + d], out)?;
+    let matrix = Matrix {
+        places,
+        columns: held,
+        stride,
+    };
+    step(field, d, matrix, &held[start..start + d], out)?;
     columns[at..at + d].copy_from_slice(&out[..d]);
     Ok(())
 }

@@ -7,7 +7,7 @@ ghost use Rattle.order.specs.Monomials.{one};
 use crate::Tables;
 use arrayvec::ArrayVec;
 use field::Field;
-use linear::step::{Misfit, Place, step};
+use linear::step::{Matrix, Misfit, Place, step};
 use order::Monomial;
 
 // How many places and columns there are for each variable, and the words from one column to the
@@ -56,14 +56,11 @@ impl Tables {
         if k >= Monomial::VARIABLES {
             return Err(Misfit);
         }
-        step(
-            field,
-            self.size(),
-            &self.places[k * STRIDE..k * STRIDE + STRIDE],
-            &self.columns,
-            STRIDE,
-            v,
-            out,
-        )
+        let matrix = Matrix {
+            places: &self.places[k * STRIDE..k * STRIDE + STRIDE],
+            columns: &self.columns,
+            stride: STRIDE,
+        };
+        step(field, self.size(), matrix, v, out)
     }
 }

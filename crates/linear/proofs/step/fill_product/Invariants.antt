@@ -5,5 +5,5 @@ use Rattle.linear.proofs.step.fill_product.Given as goal
 
 abbrev pub invariant-loop-place : goal.invariant-loop-place
 invariant-loop-place g l =
-    Elems (g.F.Field.meaning l.field) l.v → (j : ℕ) → j < length l.places
-    → get_or l.out j 0 ≡ row_words (g.F.Field.meaning l.field) l.places l.columns l.stride l.v j (length l.yielded)
+    Elems (g.F.Field.meaning l.field) l.v → (j : ℕ) → j < length l.matrix.places.now
+    → get_or l.out j 0 ≡ row_words (g.F.Field.meaning l.field) l.matrix.places.now l.matrix.columns.now l.matrix.stride l.v j (length l.yielded)

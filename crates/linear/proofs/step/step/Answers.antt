@@ -6,11 +6,11 @@ use Rattle.linear.proofs.step.step.Goals as goal
 pub fill_product-requires : goal.fill_product-requires
 fill_product-requires g c =
     let fit = c.if-not-fits.ensures.0 tt in
-    let front = Fronts.front_length c.args.places.now c.args.d fit.enough_places in
+    let front = Fronts.front_length c.args.matrix.places.now c.args.d fit.enough_places in
     record {
       words = Fronts.front_length c.args.v.now c.args.d fit.enough_words ∙ sym front;
       rows = Fronts.front_length c.args.out.now c.args.d fit.enough_rows ∙ sym front;
-      within = Columns.front_within c.args.d c.args.places.now _ c.args.stride _ _ fit;
+      within = Columns.front_within c.args.d c.args.matrix.places.now _ c.args.matrix.stride _ _ fit;
     }
 
 pub returns : goal.returns
@@ -22,5 +22,5 @@ returns g c =
       fits = (λ _. fit, λ _. refl);
       refused_as_was = tt;
       rest_unchanged = Fronts.front_drop c.fill_product.new.out c.args.out.now c.args.d long;
-      stepped = Columns.stepped (g.F.Field.meaning F) (g.met.F.Field.lawful F) (g.met.F.Field.everywhere F) c.args.d c.args.places.now c.args.columns.now c.args.stride c.args.v.now c.args.out.now c.fill_product.new.out fit long c.fill_product.ensures;
+      stepped = Columns.stepped (g.F.Field.meaning F) (g.met.F.Field.lawful F) (g.met.F.Field.everywhere F) c.args.d c.args.matrix.places.now c.args.matrix.columns.now c.args.matrix.stride c.args.v.now c.args.out.now c.fill_product.new.out fit long c.fill_product.ensures;
     }
