@@ -1,12 +1,16 @@
 -- The columns of a line as pieces of eleven bytes, as chunks_exact gives them.
--- Used by: all_numbers, read_line.
-use Rattle.std.proofs.Common.{◌≡◌, ℕ, zero, suc, ◌*◌, ◌/◌, ◌<◌, ◌≤◌, ◌&&◌, List, [], ◌∷◌, ◌++◌, length, take, drop, is_some, sym, refl, ap, ◌∙◌, unwrap_or, ap₂, arith, length-append, length-drop, take-append-drop}
+-- Used by: all_numbers, take_words, read_line.
+use Rattle.std.proofs.Common.{◌≡◌, ℕ, zero, suc, ◌+◌, ◌*◌, ◌/◌, ◌<◌, ◌≤◌, ◌&&◌, List, [], ◌∷◌, ◌++◌, length, get_or, take, drop, is_some, sym, refl, ap, ◌∙◌, subst, unwrap_or, ap₂, arith, length-append, length-drop, take-append-drop}
 use Rattle.std.specs.declared.slice.ChunksExact.{ChunksExact}
-use Rattle.std.specs.List.{list_all}
+use Rattle.std.specs.declared.iter.Enumerate.{Enumerate}
+use Rattle.std.specs.List.{list_all, enumerate_from}
+use Rattle.std.specs.Iterator.Adapters.{enumerate_source, enumerate_count, enumerate_steps}
 use Rattle.std.specs.Slice.Iter.{chunks_exact_size, chunks_exact_rest, chunks_exact_steps}
 use Rattle.std.proofs.lemmas.Iterator.{YieldsList}
 use Rattle.std.proofs.lemmas.Iterator.Splits.{YieldsList-from_shown_while}
-use Rattle.std.proofs.lemmas.List.{take_at, drop_at, take-append-le, drop-append-le, length-take-le}
+use Rattle.std.proofs.lemmas.Iterator.Consumers.{YieldsList-at, YieldsList-from_enumerate}
+use Rattle.std.proofs.lemmas.List.FromFn.{length-enumerate_from, get_or-enumerate_from}
+use Rattle.std.proofs.lemmas.List.{take_at, drop_at, drop-drop, take-append-le, drop-append-le, length-take-le}
 use Rattle.column.specs.Column.{reading}
 use Rattle.column.specs.Line.{numbers, values}
 
@@ -40,6 +44,34 @@ pieces_come s e =
     (λ t u p h. no_piece (chunks_exact_rest t) (omega (arith, p, h.1.0)))
     (λ t x u p h. (h.0 ∙ p, one_piece (chunks_exact_rest t) x.now (chunks_exact_rest u) h.1.0 (h.1.1 ∙ p)))
     s e
+
+-- the pieces with their numbers, as enumerate gives them
+pieces_length : (c : ℕ) (bs : List ℕ) → length (pieces c bs) ≡ c
+pieces_length zero bs = refl
+pieces_length (suc c) bs = ap suc (pieces_length c (drop 11 bs))
+
+piece_at : (c k : ℕ) (bs d : List ℕ) → k < c → get_or (pieces c bs) k d ≡ take 11 (drop (11 * k) bs)
+piece_at zero k bs d h = absurd (omega (arith, h))
+piece_at (suc c) zero bs d h = refl
+piece_at (suc c) (suc k) bs d h =
+    let n : 11 + 11 * k ≡ 11 * suc k = omega arith in
+    piece_at c k (drop 11 bs) d (omega (arith, h)) ∙ ap (take 11) (drop-drop (11 * k) 11 bs ∙ ap (λ j. drop j bs) n)
+
+abbrev pub numbered : List ℕ → List (ℕ × List ℕ)
+numbered bs = enumerate_from 0 (all_pieces bs)
+
+pub numbered_come : (s : Enumerate (ChunksExact ℕ)) (t : ChunksExact ℕ) (bs : List ℕ) → enumerate_source s ≡ t → enumerate_count s ≡ 0 → chunks_exact_size t ≡ 11 → chunks_exact_rest t ≡ bs
+    → YieldsList (enumerate_steps chunks_exact_steps) (λ p. (p.0, p.1.now)) s (numbered bs)
+numbered_come s t bs e z size rest = subst (λ b. YieldsList (enumerate_steps chunks_exact_steps) (λ p. (p.0, p.1.now)) s (numbered b)) rest (YieldsList-from_enumerate (YieldsList-at e (pieces_come t size)) z)
+
+pub numbered_length : (bs : List ℕ) → length (numbered bs) ≡ length bs / 11
+numbered_length bs = length-enumerate_from 0 (all_pieces bs) ∙ pieces_length (length bs / 11) bs
+
+pub numbered_at : (bs : List ℕ) (k i : ℕ) (p : List ℕ) → k < length (numbered bs) → (i, p) ≡ get_or (numbered bs) k (i, p) → (i ≡ k) × (p ≡ take 11 (drop (11 * k) bs))
+numbered_at bs k i p h e =
+    let short : k < length bs / 11 = omega (arith, h, numbered_length bs) in
+    let q = e ∙ get_or-enumerate_from 0 (all_pieces bs) k (i, p) (omega (arith, short, pieces_length (length bs / 11) bs)) in
+    (omega (arith, ap (λ x. x.0) q), ap (λ x. x.1) q ∙ piece_at (length bs / 11) k bs p short)
 
 -- what follows the columns changes nothing
 

@@ -1,6 +1,6 @@
 -- The loops over a line: one step of each, over the bytes that are left.
 -- Used by: take_words, put_columns.
-use Rattle.std.proofs.Common.{◌≡◌, ℕ, suc, ◌+◌, ◌-◌, ◌*◌, ◌<◌, ◌≤◌, List, [], ◌∷◌, ◌++◌, length, get_or, take, drop, set, Option, unwrap_or, sym, refl, ap, ◌∙◌, arith, length-append}
+use Rattle.std.proofs.Common.{◌≡◌, ℕ, suc, ◌+◌, ◌-◌, ◌*◌, ◌<◌, ◌≤◌, List, [], ◌∷◌, ◌++◌, length, get_or, take, drop, set, unwrap_or, sym, refl, ap, ◌∙◌, arith, length-append}
 use Rattle.std.proofs.lemmas.List.{append_assoc, drop-drop, flat_map_more, take_all, take_more, take_more_set}
 use Rattle.column.specs.Column.{Word, column, reading}
 use Rattle.column.specs.Line.{columns, values}
@@ -9,10 +9,6 @@ use Rattle.column.proofs.Columns.{column_length}
 use Rattle.column.proofs.Places.{put_none, put_put}
 
 -- from column to column
-
--- the part that is lent for a column
-pub part_is_column : (bytes : List ℕ) (from : ℕ) (o : Option ℕ) → o ≡ reading (take (from + 11 - from) (drop from bytes)) → o ≡ reading (take 11 (drop from bytes))
-part_is_column bytes from o e = let n : from + 11 - from ≡ 11 = omega arith in e ∙ ap (λ k. reading (take k (drop from bytes))) n
 
 pub values_none : (c i : ℕ) (bs : List ℕ) → c ≤ i → values (c - i) bs ≡ []
 unfolding values

@@ -67,10 +67,8 @@ fn take_words(columns: &[u8], words: &mut [u32])
     requires { length columns.now ≡ 11 * length words.old }
     ensures { words.new ≡ values (length words.old) columns.now }
 {
-    // By index: after an adapter of iter_mut a proof knows nothing of the words.
-    for i in 0..words.len() {
-        let from = WIDTH * i;
-        words[i] = read_column(&columns[from..from + WIDTH]).unwrap_or(0);
+    for (i, column) in columns.chunks_exact(WIDTH).enumerate() {
+        words[i] = read_column(column).unwrap_or(0);
     }
 }
 

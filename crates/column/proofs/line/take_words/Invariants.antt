@@ -3,4 +3,4 @@ use Rattle.column.specs.Line.{values}
 use Rattle.column.proofs.line.take_words.Given as goal
 
 abbrev pub invariant-loop-i : goal.invariant-loop-i
-invariant-loop-i l = take l.i l.words ++ values (length l.initial.words - l.i) (drop (11 * l.i) l.columns) ≡ values (length l.initial.words) l.columns
+invariant-loop-i l = take (length l.yielded) l.words ++ values (length l.initial.words - length l.yielded) (drop (11 * length l.yielded) l.columns) ≡ values (length l.initial.words) l.columns
