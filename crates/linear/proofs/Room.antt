@@ -2,7 +2,7 @@
 --   has_room      the places, coordinates and rows
 --   reaches       a vector of a family that is covered ends within its words
 --   below_all     the pivots tested are places, and back
---   all_are_below one test of all of them says the same
+--   all_tested    one test of all of them says the same
 --   both_passed   two tests that passed did not fail together
 use Rattle.std.proofs.Common.{◌≡◌, ℕ, zero, suc, ◌+◌, ◌-◌, ◌*◌, ◌<◌, ◌≤◌, Bool, true, false, ◌&&◌, ltb, leb, List, length, get_or, take, sym, refl, ap, ◌∙◌, add-one, add-mul, one-mul, arith, ltb-true, lt-ltb, leb-true}
 use native.Mathlib.Decide.{ℕ_discrete}
@@ -45,9 +45,12 @@ all_below d zero pivots h = refl
 all_below d (suc n) pivots h = and_from _ _ (all_below d n pivots (λ i l. h i (omega arith))) (lt-ltb _ _ (h n (omega arith)))
 
 -- the test of the first pivots, taken one after the other
-pub all_are_below : (d n : ℕ) (pivots : List ℕ) → n ≤ length pivots → list_all (λ p. ltb p d) (take n pivots) ≡ below d n pivots
+all_are_below : (d n : ℕ) (pivots : List ℕ) → n ≤ length pivots → list_all (λ p. ltb p d) (take n pivots) ≡ below d n pivots
 all_are_below d zero pivots h = refl
 all_are_below d (suc n) pivots h = ap (λ k. list_all (λ p. ltb p d) (take k pivots)) (sym (add-one n)) ∙ list_all_more (λ p. ltb p d) pivots n 0 h ∙ ap (λ b. b && ltb (get_or pivots n 0) d) (all_are_below d n pivots (omega arith))
+
+pub all_tested : (d n rows : ℕ) (pivots : List ℕ) → roomy d n rows ≡ true → rows ≤ length pivots → {b : Bool} → b ≡ list_all (λ p. ltb p d) (take n pivots) → below d n pivots ≡ b
+all_tested d n rows pivots room long e = sym (e ∙ all_are_below d n pivots (omega (arith, (has_room d n rows room).enough, long)))
 
 -- two tests that passed did not fail together
 pub both_passed : (a b : Bool) → a ≡ true → b ≡ true → (a && b) ≡ false → ⊥

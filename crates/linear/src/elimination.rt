@@ -1,11 +1,12 @@
 // Elimination over the words of any field: which vector of a family is the first that depends on
 // those before it, and the coefficients of a vector over independent ones.
 // Works in memory of its own, and touches nothing else but the output that is lent for a solution.
-ghost use Rattle.std.specs.Prelude.{◌≡◌, ℕ, ◌+◌, ◌*◌, ◌<◌, ◌≤◌, true, false, ◌≢◌, [], length, get_or, replicate, MatchOption, Err, OnOk, OnErr, IsErrOf, slice_index, slice_index_or};
+ghost use Rattle.std.specs.Prelude.{◌≡◌, ℕ, ◌+◌, ◌*◌, ◌<◌, ◌≤◌, true, false, nat_lt, ◌≢◌, [], length, get_or, replicate, MatchOption, Err, OnOk, OnErr, IsErrOf, slice_index, slice_index_or};
+ghost use Rattle.std.specs.List.{list_all};
 ghost use Rattle.field.specs.Meaning.{FieldLaws};
 ghost use Rattle.algebra.specs.Elements.{Elem, Elems};
 ghost use Rattle.linear.specs.Echelon.{reduced};
-ghost use Rattle.linear.specs.Elimination.{pitch, roomy, covers, fits, below, solvable, rows, Wide, Table, Growing, Stepped, Eliminated, Solved};
+ghost use Rattle.linear.specs.Elimination.{pitch, roomy, covers, fits, solvable, rows, Wide, Table, Growing, Stepped, Eliminated, Solved};
 
 mod rows;
 
@@ -62,12 +63,11 @@ fn is_covered(places: usize, count: usize, stride: usize, words: usize) -> bool
     stride <= PITCH && (count * stride).saturating_sub(stride) + places <= words
 }
 
-// Whether the first pivots are places.
-fn are_places(pivots: &[usize], count: usize, places: usize) -> bool
-    requires { count ≤ length pivots.now }
-    ensures { result ≡ below places count pivots.now }
+// Whether the pivots are places.
+fn are_places(pivots: &[usize], places: usize) -> bool
+    ensures { result ≡ list_all (λ p. nat_lt p places) pivots.now }
 {
-    pivots[..count].iter().all(|pivot| *pivot < places)
+    pivots.iter().all(|pivot| *pivot < places)
 }
 
 impl<const ROWS: usize> Echelon<ROWS> {
@@ -194,7 +194,7 @@ impl<const ROWS: usize> Echelon<ROWS> {
         if !has_room(vector.len(), count, ROWS) {
             return Err(SolveFault::NoRoom);
         }
-        if !are_places(&self.pivots, count, vector.len()) {
+        if !are_places(&self.pivots[..count], vector.len()) {
             return Err(SolveFault::NoRoom);
         }
         if let Some(_) = self.remainder(field, count, vector, vector.len() + count) {
