@@ -17,7 +17,7 @@ use Rattle.conversion.proofs.Standing.{stands_read}
 
 module _ (m : FieldMeaning) (laws : FieldLaws m) (d : ℕ) (v : ℕ → ℕ → Elem m) where
   -- independent rows are all taken
-  pub all_taken : {A : Type 0} (table pivots row : List ℕ) (a : Result A EliminateFault) → Independent (field_of m laws) d d v → Eliminated m laws d d v table pivots row a → Table m laws d d v table pivots
+  pub all_taken : {A : Type 0} (table : List (List ℕ)) (pivots row : List ℕ) (a : Result A EliminateFault) → Independent (field_of m laws) d d v → Eliminated m laws d d v table pivots row a → Table m laws d d v table pivots
   all_taken table pivots row (Ok _) h x = x.1
   all_taken table pivots row (Err (First j)) h x = absurd (omega (arith, x.0, no_combination (field_of m laws) d d j v h x.1.0.0 x.1.0.1))
   all_taken table pivots row (Err NoRoom) h x = absurd x

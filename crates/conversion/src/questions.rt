@@ -10,7 +10,7 @@ ghost use Rattle.conversion.specs.Asked.{vector_words_asks, ShapeFound, LengthFo
 
 use crate::powers::{Conversion, Matrices, WIDTH};
 use field::Field;
-use linear::elimination::{EliminateFault, Family, eliminate};
+use linear::elimination::{Echelon, EliminateFault, Family};
 use linear::recurrence::recurrence_length;
 use polynomials::JobFault;
 
@@ -51,9 +51,7 @@ pub(crate) fn ask_vector<F: Field>(
 pub(crate) fn ask_independent<F: Field>(
     by: &Conversion<F>,
     vectors: &[u32; 2304],
-    table: &mut [u32; 4608],
-    pivots: &mut [usize; 48],
-    row: &mut [u32; 96],
+    echelon: &mut Echelon<48>,
 ) -> Result<(), JobFault>
     ensures { let m = F.Field.meaning by.now.matrices.field.now in let t = by.now.matrices.tables.now in (laws : FieldLaws m) → Vectors m laws t by.now.k vectors.now → ShapeFound m laws (stair_count t) (power m laws t by.now.k (unit m laws)) result }
 {
@@ -64,7 +62,7 @@ pub(crate) fn ask_independent<F: Field>(
         places: d,
         count: d,
     };
-    match eliminate(by.matrices.field, family, table, pivots, row) {
+    match echelon.eliminate(by.matrices.field, family) {
         Ok(()) => Ok(()),
         Err(EliminateFault::Depends(j)) => Err(JobFault::NoShape(j)),
         Err(EliminateFault::NoRoom) => Err(JobFault::NotClosed),

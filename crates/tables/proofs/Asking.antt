@@ -24,10 +24,6 @@ use Rattle.polynomials.proofs.Answering.{refused_first, refused_after, asked_aft
 use Rattle.polynomials.proofs.LeadMonomials.{stairs_same, leading}
 use Rattle.tables.specs.Filling.{Closable}
 
--- a list cut at its front
-pub cut_front : {X : Type 0} (k : ℕ) (xs ys : List X) → take k xs ≡ ys → take (k - 0) xs ≡ ys
-cut_front k xs ys e = let w : k - 0 ≡ k = omega arith in ap (λ (i : ℕ). take i xs) w ∙ e
-
 module _ (m : FieldMeaning) (laws : FieldLaws m) (cmp : Comparison) (O : OrderLaws cmp) (n : ℕ) (ps : List (List Term)) (few : n ≤ variables) (en : Enters m cmp (new n) ps) where
   abbrev size_ask : Question
   size_ask = single 16 0 (D m laws cmp n ps ≤ most_stairs)

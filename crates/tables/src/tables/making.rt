@@ -18,15 +18,9 @@ fn ask_stairs<O: Order>(
 ) -> Result<ArrayVec<Monomial, 48>, JobFault>
     ensures { StairsAsked (O.Order.meaning order.now) n (held polynomials.now) result }
 {
-    let mut leads = [Monomial::ONE; 48];
-    if !polynomials.put_leads(&mut leads) {
-        return Err(JobFault::ManyPolynomials);
-    }
-    let leads = &leads[0..polynomials.count()];
-    ask_leads(n, leads)?;
-    let Ok(stairs) = staircase::<O, 48>(order, n, leads) else {
-        return Err(JobFault::ManyStairs);
-    };
+    let leads = polynomials.leads();
+    ask_leads(n, leads.as_slice())?;
+    let stairs: ArrayVec<Monomial, 48> = staircase(order, n, leads.as_slice())?;
     polynomials.ask_inside(stairs.as_slice())?;
     Ok(stairs)
 }
