@@ -21,7 +21,7 @@ impl<'a> Reader<'a> {
     ghost use Rattle.evaluation.specs.Steps.{SameText, LinePassed, LinesPassed};
 
     // The number of the line, as a fault carries it.
-    pub fn line(self) -> u32
+    pub(crate) fn line(self) -> u32
         ensures { result ≡ self.entry.place.line }
     {
         // `as`: there is no From<usize> for u32, and a short text has few lines.
@@ -29,7 +29,7 @@ impl<'a> Reader<'a> {
     }
 
     // Reads the line here into the words.
-    pub fn read(self, words: &mut [u32]) -> Result<Reader<'a>, ProbeFault>
+    pub(crate) fn read(self, words: &mut [u32]) -> Result<Reader<'a>, ProbeFault>
         ensures asked { MatchResult result
             (λ q. SameText self.entry q × LinePassed self.entry.text.now (length words.old) self.entry.place q.place words.new)
             (λ e. asks_line (length words.old) (drop self.entry.place.at self.entry.text.now) self.entry.place.line ≡ Some e) }
@@ -47,7 +47,7 @@ impl<'a> Reader<'a> {
     }
 
     // Reads the lines of so many terms.
-    pub fn pass_terms(self, count: u32) -> Result<Reader<'a>, ProbeFault>
+    pub(crate) fn pass_terms(self, count: u32) -> Result<Reader<'a>, ProbeFault>
         ensures asked { MatchResult result
             (λ q. SameText self.entry q × LinesPassed self.entry.text.now (self.entry.n + 1) count self.entry.place q.place)
             (λ e. asks_lines (self.entry.n + 1) count (drop self.entry.place.at self.entry.text.now) self.entry.place.line ≡ Some e) }
@@ -62,7 +62,7 @@ impl<'a> Reader<'a> {
     }
 
     // The lines from here on, once more.
-    pub fn lines(self) -> Lines<'a>
+    pub(crate) fn lines(self) -> Lines<'a>
         ensures text { result.text.now ≡ self.entry.text.now }
         ensures at { result.at ≡ self.entry.place.at }
     {

@@ -17,7 +17,7 @@ impl<'a> Lines<'a> {
     ghost use Rattle.evaluation.specs.Padded.{padded};
 
     // The words of the first line, zeros behind them.
-    pub fn first(self, columns: usize) -> [u32; 5]
+    pub(crate) fn first(self, columns: usize) -> [u32; 5]
         requires { columns ≤ 5 }
         ensures { result ≡ padded columns (words columns (drop self.entry.at self.entry.text.now)) }
     {
@@ -27,7 +27,7 @@ impl<'a> Lines<'a> {
     }
 
     // The lines after so many.
-    pub fn after(self, count: u32, columns: usize) -> Lines<'a>
+    pub(crate) fn after(self, count: u32, columns: usize) -> Lines<'a>
         requires { columns ≤ 5 }
         ensures text { result.text.now ≡ self.entry.text.now }
         ensures rest { drop result.at result.text.now ≡ after_lines columns count (drop self.entry.at self.entry.text.now) }
