@@ -3,7 +3,7 @@
 // specs/Meaning.antt is the ground of the house; the two implementations may be touched freely.
 #![tactic(auto)]
 
-ghost use Rattle.std.specs.Prelude.{◌≡◌};
+ghost use Rattle.std.specs.Prelude.{◌≡◌, ◌<◌, not, length, position, IfSome};
 ghost use Rattle.field.specs.Meaning.{FieldMeaning, FieldLaws, FieldTotal, OneInverse, nonzero_element};
 
 pub mod bytes;
@@ -45,6 +45,14 @@ pub trait Field {
         ensures { result ≡ nonzero_element (meaning self.now) w }
     {
         self.contains(w) && w != self.zero()
+    }
+
+    // The first of the words that is no element.
+    final fn first_no_element(&self, words: &[u32]) -> Option<usize>
+        ensures first { result ≡ position (λ w. not ((meaning self.now).elem w)) words.now }
+        ensures within { IfSome result (λ k. k < length words.now) }
+    {
+        words.iter().position(|word| !self.contains(*word))
     }
 
     ghost lawful: { (f : Self) → FieldLaws (meaning f) };
