@@ -105,12 +105,8 @@ impl Monomial {
     pub fn raised(self, k: usize) -> Option<Monomial>
         ensures { result ≡ def.raised k self }
     {
-        let e = self.exponent(k);
-        if k < Self::VARIABLES && e < Self::LARGEST {
-            Some(self.with_exponent(k, e + 1))
-        } else {
-            None
-        }
+        let e = self.exponent(k).checked_add(1)?;
+        (k < Self::VARIABLES).then(|| self.with_exponent(k, e))
     }
 
     // The quotient by a variable, where it divides.
@@ -118,11 +114,7 @@ impl Monomial {
     pub fn lowered(self, k: usize) -> Option<Monomial>
         ensures { result ≡ def.lowered k self }
     {
-        let e = self.exponent(k);
-        if 0 < e {
-            Some(self.with_exponent(k, e - 1))
-        } else {
-            None
-        }
+        let e = self.exponent(k).checked_sub(1)?;
+        Some(self.with_exponent(k, e))
     }
 }

@@ -47,10 +47,6 @@ impl Field for ByteField {
     }
 
     fn inverse(&self, a: u32) -> Option<u32> {
-        if self.contains(a) && a != 0 {
-            Some(power(a))
-        } else {
-            None
-        }
+        (self.contains(a) && a != 0).then(|| power(a))
     }
 }

@@ -55,11 +55,7 @@ impl Field for Residue {
     }
 
     fn inverse(&self, a: u32) -> Option<u32> {
-        if self.contains(a) && a != 0 {
-            Some(inverse_modulo(self.p, a))
-        } else {
-            None
-        }
+        (self.contains(a) && a != 0).then(|| inverse_modulo(self.p, a))
     }
 }
 
