@@ -1,8 +1,12 @@
 -- A list in which each monomial is less than the one before it.
-use Rattle.std.proofs.Common.{◌≡◌, ℕ, zero, suc, ◌-◌, ◌<◌, ◌≤◌, Bool, true, false, cond, not, ◌&&◌, ltb, List, length, Some, None, Option, MatchOption, Ordering, Less, sym, refl, ap, ◌∙◌, subst, ap₂, arith}
+use Rattle.std.proofs.Common.{◌≡◌, ℕ, zero, suc, ◌+◌, ◌-◌, ◌<◌, ◌≤◌, Bool, true, false, cond, not, ◌&&◌, ltb, List, length, get_or, drop, zip, length-drop, Some, None, Option, MatchOption, Ordering, Less, sym, refl, ap, ◌∙◌, subst, ap₂, arith}
 use native.Mathlib.Decide.{ℕ_discrete, dec_lt}
 use Rattle.std.proofs.lemmas.Bool.Decides.{nat_tests}
 use Rattle.std.specs.Ordering.{is_lt}
+use Rattle.std.specs.List.{AllWithin, HoldsAt}
+use Rattle.std.proofs.lemmas.Grind.{get_or_after_one}
+use Rattle.std.proofs.lemmas.Slice.Zip.{length-zip, get_or-zip}
+use Rattle.order.specs.Monomials.{one}
 use Rattle.order.specs.declared.monomial.Monomial.{Monomial}
 use Rattle.order.specs.Monomials.{Small}
 use Rattle.order.specs.Laws.{Comparison, OrderLaws, Falling}
@@ -76,6 +80,31 @@ module _ (cmp : Comparison) (l : List Monomial) where
   abbrev pub Found : Option ℕ → Type 0
   Found r = MatchOption r ((k : ℕ) → 1 ≤ k → k < length l → Fallen k)
       (λ i. (1 ≤ i) × (i < length l) × (is_lt (cmp (listed l i) (listed l (i - 1))) ≡ false) × ((k : ℕ) → 1 ≤ k → k < i → Fallen k))
+
+  -- a monomial and the next, side by side
+  abbrev pub Rises : Monomial × Monomial → Type 0
+  Rises p = is_lt (cmp p.1 p.0) ≡ false
+
+  pub record Falls (p : Monomial × Monomial) : Type 0 where
+    pub small : Small p.1 × Small p.0
+    pub less : is_lt (cmp p.1 p.0) ≡ true
+
+  length_neighbours : length (zip l (drop 1 l)) ≡ length l - 1
+  length_neighbours = length-zip l (drop 1 l) ∙ omega (arith, length-drop 1 l)
+
+  neighbours_at : (k : ℕ) → 1 ≤ k → k < length l → get_or (zip l (drop 1 l)) (k - 1) (one, one) ≡ (listed l (k - 1), listed l k)
+  neighbours_at k p q = get_or-zip l (drop 1 l) (k - 1) (one, one) (omega arith) (omega (arith, length-drop 1 l)) ∙ ap (λ (t : Monomial). (listed l (k - 1), t)) (get_or_after_one l (k - 1) one ∙ ap (λ (j : ℕ). listed l j) (omega arith))
+
+  fallen_after : (n : ℕ) → n ≤ length (zip l (drop 1 l)) → AllWithin Falls (zip l (drop 1 l)) 0 n → (k : ℕ) → 1 ≤ k → k < n + 1 → Fallen k
+  fallen_after n le h k p q = let t = subst Falls (neighbours_at k p (omega (arith, length_neighbours))) (h (k - 1) (one, one) (omega arith) (omega arith)) in record { small = λ z. t.small; less = λ z. t.less }
+
+  pub all_fall : AllWithin Falls (zip l (drop 1 l)) 0 (length (zip l (drop 1 l))) → Found None
+  all_fall h k p q = fallen_after (length (zip l (drop 1 l))) (omega arith) h k p (omega (arith, length_neighbours))
+
+  pub first_rises : (i : ℕ) → i < length (zip l (drop 1 l)) → HoldsAt Rises (zip l (drop 1 l)) i → AllWithin Falls (zip l (drop 1 l)) 0 i → Found (Some (i + 1))
+  first_rises i q h f =
+      let within : i + 1 < length l = omega (arith, length_neighbours) in
+      (omega arith, within, subst Rises (neighbours_at (i + 1) (omega arith) within) (subst (λ (j : ℕ). Rises (get_or (zip l (drop 1 l)) j (one, one))) (omega arith) (h (one, one))), fallen_after i (omega arith) f)
 
   pub found_first : (r : Option ℕ) → Found r → r ≡ unfalling cmp l
   found_first None h = sym (unfalling_none (fallen_from (length l) h))

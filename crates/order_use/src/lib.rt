@@ -12,5 +12,7 @@ pub fn first_not_falling<O: Order>(order: &O, list: &[Monomial]) -> Option<usize
     ensures first { result ≡ unfalling (O.Order.meaning order.now) list.now }
     ensures else_falling { result ≡ None → Falling (O.Order.meaning order.now) (listed list.now) (length list.now) }
 {
-    (1..list.len()).find(|&i| !order.compare(list[i], list[i - 1]).is_lt())
+    let mut neighbours = list.iter().zip(list.iter().skip(1));
+    let before = neighbours.position(|(m, next)| !order.compare(*next, *m).is_lt())?;
+    Some(before + 1)
 }
