@@ -67,6 +67,7 @@ fn take_words(columns: &[u8], words: &mut [u32])
     requires { length columns.now ≡ 11 * length words.old }
     ensures { words.new ≡ values (length words.old) columns.now }
 {
+    // By index: a proof knows nothing of words that are written through an adapter of `iter_mut`.
     for (i, column) in columns.chunks_exact(WIDTH).enumerate() {
         words[i] = read_column(column).unwrap_or(0);
     }
@@ -96,6 +97,7 @@ fn put_columns(out: &mut [u8], at: usize, words: &[u32])
     requires { at + 11 * length words.now ≤ length out.old }
     ensures { out.new ≡ put out.old at (columns words.now) }
 {
+    // By place: a proof knows nothing of bytes that are written through `chunks_exact_mut`.
     for (i, word) in words.iter().enumerate() {
         put_column(out, at + WIDTH * i, *word);
     }

@@ -2,6 +2,7 @@
 ghost use Rattle.std.specs.Prelude.{◌≡◌};
 ghost use Rattle.order.specs.Faults as def;
 
+// Beside those of `FieldFault`: the crates of fields and of orders know nothing of each other.
 const ORDER_LAYER: u32 = 2;
 
 const NO_PLACE: u32 = 0;
@@ -12,6 +13,7 @@ pub enum OrderFault {
 }
 
 impl OrderFault {
+    // Like that of other faults in shape alone: each is a table of its own cases and numbers.
     pub fn number(self) -> u32
         ensures { result ≡ def.number self }
     {

@@ -33,7 +33,9 @@ impl Rearrangement {
     pub fn is_rearrangement(self) -> bool
         ensures { result ≡ def.rearranges self }
     {
-        (0..Monomial::VARIABLES).all(|k| self.is_fresh(k) && in_range(self.place(k)))
+        let places = 1..=Monomial::VARIABLES;
+        (0..Monomial::VARIABLES).all(|k| self.is_fresh(k)
+            && places.contains(&usize::from(self.place(k))))
     }
 
     // The monomial with each exponent at the place that is named for it.
@@ -94,11 +96,4 @@ impl Rearrangement {
             }
         })
     }
-}
-
-// The library's range under a name of its own, that of its definition.
-fn in_range(place: u8) -> bool
-    ensures { result ≡ def.in_range place }
-{
-    (1..=Monomial::VARIABLES).contains(&usize::from(place))
 }

@@ -4,6 +4,7 @@ ghost use Rattle.field.specs.Faults.{number_of, layer_of, place_of};
 
 use crate::FieldFault;
 
+// Beside those of `OrderFault`: the crates of fields and of orders know nothing of each other.
 const FIELD_LAYER: u32 = 1;
 
 const NO_PLACE: u32 = 0;
