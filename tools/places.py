@@ -60,6 +60,10 @@ def flags():
     yield from found(r'^#\[derive[^\n]*\n(?:pub )?enum \w+ \{[^}]*\b(?:Refused|Broken|Stuck)\b[^}]*\}')
     yield from found(r'^    closed: bool,')
     yield from found(r'_code: u32\b|\bcode == 0|order: u32\b')
+    yield from found(r'^\s*let (?:Some|Ok|Err)\([^=]*\) =[^;{]*else \{\s*return (?:Err|None|false)[^;]*;')
+    yield from found(r'^\s*(?:None|Some\([^)]*\)|Err\([^_)]*\)) => (?:return )?Err\([^,]*\)(?:,|;)')
+    yield from found(r'\bif [^{};]*\{\s*(?:Some|Ok)\([^{};]*\)\s*\} else \{\s*(?:None|Err\([^{};]*\))\s*\}')
+    yield from found(r'^\s*\[\] => [^,]*,')
 
 
 def twins():
@@ -74,12 +78,45 @@ def twins():
     for places in by_shape.values():
         if len(places) > 1:
             yield from places
+    yield from same_named()
     yield from found(r'^pub struct Place \{|Monomial \{\s*x1: 0,\s*x2: 0,\s*x3: 0,\s*x4: 0,')
+
+
+def body_of(text, at):
+    """What stands between the braces of the function whose head ends there, its clauses left out."""
+    rest = text[at:]
+    m = re.search(r'\n( *)\{\n(.*?)\n\1\}|\{\n(.*?)\n *\}', rest, re.S)
+    return ' '.join((m.group(2) or m.group(3) or '').split()) if m else ''
+
+
+def same_named():
+    """Functions and constants that two crates have under one name and in one shape, but for what only calls that name."""
+    by_name = collections.defaultdict(list)
+    for name, text in sources():
+        crate = name.split('/')[1]
+        traits = [(m.start(), text.find('\n}', m.end()))
+                  for m in re.finditer(r'^(?:impl\b[^{]* for [^{]*|pub trait [^{]*)\{(?!\})', text, re.M)]
+        for m in FUNCTION.finditer(text):
+            body = body_of(text, m.end())
+            if not any(a <= m.start() < b for a, b in traits) and f'.{m.group(1)}(' not in body:
+                parameters = re.sub(r': [^,]*', '', ' '.join(m.group(2).split())).strip(', ')
+                shape = re.sub(r'\b\w+\b', '_', body)
+                by_name[f'fn {m.group(1)}({parameters})', shape].append((crate, f'{name}:{line_of(text, m.start())}'))
+        for m in re.finditer(r'^(?:pub(?:\(\w+\))? )?const (\w+):[^;]*;', text, re.M):
+            by_name[f'const {m.group(1)}', ' '.join(m.group(0).split())].append((crate, f'{name}:{line_of(text, m.start())}'))
+    for (what, _), places in sorted(by_name.items()):
+        if len({crate for crate, _ in places}) > 1 and not what.startswith('fn main('):
+            yield from (f'{place}: {what}' for _, place in places)
 
 
 def loops():
     yield from found(r'^\s*while (?!let)[^{]*')
-    yield from found(r'^\s*for (?!_)\w+ in (?:\()?[^{]*\.\.[^{]*')
+    yield from found(r'^\s*for \w+ in (?:\()?[^{]*\.\.[^{]*')
+    yield from found(r'\(\w+\.\.=?[^()]*(?:\([^()]*\))?\)\s*\.(?:rev\(\)\s*\.)?(?:all|any|find|position|fold|map)\((?:[^|;]*)\|[^|]*?&?(\w+)\|[^;]*?(?:\[[^\];]*\b\1\b|polynomial\(\1\))')
+    for name, text in sources():
+        for m in re.finditer(r'^( *)for \((\w+), [^{]*enumerate\(\)[^{]*\{\n(.*?)\n\1\}', text, re.M | re.S):
+            if re.search(r'\[[^\]\n]*\b' + m.group(2) + r'\b[^\]\n]*\][\w.]* [-+^]?= |\([^()\n]*\b' + m.group(2) + r'\b', m.group(3)):
+                yield f'{name}:{line_of(text, m.start())}: {" ".join(m.group(0).split())[:110]}'
 
 
 def hand_written():
@@ -95,13 +132,12 @@ def repeated():
     for name, line, function, parameters, _, clauses in functions():
         where = f'{name}:{line}: fn {function}'
         for kind, text in clauses:
-            if kind == 'requires':
-                for part in re.split(r' × ', text):
-                    facts[part.strip('() ').replace('.old', '.now').replace('self.', '')].add(where)
+            for part in re.split(r' × ', text):
+                facts[kind, re.sub(r'\b(?:self|entry)\.|\.entry\b', '', part.strip('() ').replace('.old', '.now').replace('.new', '.now'))].add(where)
         lists[where] = frozenset(re.findall(r'(\w+): (?:&|usize|u32|Place)', parameters))
-    for fact, places in sorted(facts.items()):
-        if len(places) >= 3:
-            yield f'{len(places)} contracts require: {fact}'
+    for (kind, fact), places in sorted(facts.items()):
+        if len(places) >= 3 and (kind == 'requires' or len(fact) > 45):
+            yield f'{len(places)} contracts {"require" if kind == "requires" else "ensure"}: {fact}'
     groups = {a & b for a in lists.values() for b in lists.values()} | set(lists.values())
     for group in sorted(groups, key=sorted):
         places = sum(group <= names for names in lists.values())
@@ -125,12 +161,21 @@ def switches():
 POINTS = {1: flags, 2: twins, 3: loops, 4: hand_written, 5: repeated, 6: buffers, 7: switches}
 
 
+def places_of(point):
+    """The places of a point, each once."""
+    places = {}
+    for place in POINTS[point]():
+        where = re.match(r'crates/\S+:\d+:', place)
+        places.setdefault(where.group(0) if where else place, place)
+    return places.values()
+
+
 def main():
     if len(sys.argv) > 1:
-        print('\n'.join(POINTS[int(sys.argv[1])]()))
+        print('\n'.join(places_of(int(sys.argv[1]))))
     else:
-        for point, places in POINTS.items():
-            print(f'{point}: {len(list(places()))}')
+        for point in POINTS:
+            print(f'{point}: {len(places_of(point))}')
 
 
 main()
