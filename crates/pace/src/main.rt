@@ -27,6 +27,7 @@ const VECTOR: [u32; 48] = [
 // Fills and closes so often, and answers D of the last.
 fn closed<F: Field>(job: &mut Job<F, Drl>, n: usize, text: &[u8], turns: Turns) -> usize {
     let mut size = 0;
+    // Over no items, as the loops below: the same call so many times.
     for _i in 0..turns.fills {
         let _ = job.open(n);
         let _ = fill(job, text);
