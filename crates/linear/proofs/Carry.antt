@@ -5,14 +5,14 @@
 --   kept            and the row kept from it is one more row of the table
 --   failed          a vector that is not taken ends the elimination
 --   found, lost     what a solver finds
-use Rattle.std.proofs.Common.{◌≡◌, ℕ, zero, suc, ◌+◌, ◌*◌, ◌<◌, ◌≤◌, T, ◌≢◌, List, [], length, get_or, set, Some, None, Err, sym, refl, ap, ◌∙◌, subst, ap₂, add-one, arith, length-set, get_or-set_same, get_or-set_other}
+use Rattle.std.proofs.Common.{◌≡◌, ℕ, zero, suc, ◌+◌, ◌*◌, ◌<◌, ◌≤◌, T, ◌≢◌, List, [], length, get_or, set, true, false, Option, Some, None, is_some, Err, sym, refl, ap, ◌∙◌, subst, ap₂, add-one, arith, length-set, get_or-set_same, get_or-set_other}
 use native.Mathlib.Decide.{ℕ_discrete, dec_lt}
 use Rattle.field.specs.Meaning.{FieldMeaning, FieldLaws}
 use Rattle.algebra.specs.Field.{Field}
 use Rattle.algebra.specs.Vector.{Least, Combines}
 use Rattle.algebra.specs.Elements.{Elem, Elems, elem_path, field_of, read}
 use Rattle.linear.specs.Echelon.{reduced, Depends, Echelon, Taken}
-use Rattle.linear.specs.Elimination.{pitch, rows, held, Wide, Table, Growing, Relation, Stepped, Eliminated}
+use Rattle.linear.specs.Elimination.{pitch, rows, held, Wide, Table, Growing, Reduced, FirstNonzero, Relation, Stepped, Eliminated}
 use Rattle.linear.specs.declared.elimination.EliminateFault.{EliminateFault}
 use Rattle.linear.specs.declared.elimination.EliminateFault.TheVariants.{NoRoom, Depends as First}
 use Rattle.linear.proofs.Writes.{other, part, part_length}
@@ -46,7 +46,7 @@ module _ (m : FieldMeaning) (laws : FieldLaws m) where
     pub elements : (i k : ℕ) → i < n → k < d + N → T (m.elem (get_or (get_or table i []) k 0))
     pub pivot : (i : ℕ) → i < n → get_or pivots i 0 < d
     pub given : Elems m vector
-    pub left : (k : ℕ) → k < d + N → get_or row k 0 ≡ reduced m.add m.mul m.neg (λ i j. get_or (get_or table i []) j 0) (λ i. get_or pivots i 0) (λ j. get_or vector j m.zero) n k
+    pub left : Reduced m table pivots n (λ j. get_or vector j m.zero) (d + N) row
 
   module _ (d N n : ℕ) (v : ℕ → ℕ → Elem m) (table : List (List ℕ)) (pivots vector row : List ℕ) (L : Remainder d N n table pivots vector row) where
     table_word : (i k : ℕ) → i < n → k < d + N → get_or (get_or table i []) k 0 ≡ (held m laws table i k).0
@@ -146,7 +146,7 @@ module _ (m : FieldMeaning) (laws : FieldLaws m) where
 
   module _ (d N n stride : ℕ) (words : List ℕ) (table : List (List ℕ)) (pivots row : List ℕ) (covered : n * stride + d ≤ length words) (narrow : length row ≤ pitch) (wide : Wide n table) (room : n < N) (within : d + N ≤ length row)
       (given : Elems m words) (G : Growing m laws d N n (rows m laws stride words) table pivots)
-      (left : (k : ℕ) → k < d + N → get_or row k 0 ≡ reduced m.add m.mul m.neg (λ i j. get_or (get_or table i []) j 0) (λ i. get_or pivots i 0) (λ j. get_or (part (n * stride) d words) j m.zero) n k) where
+      (left : Reduced m table pivots n (λ j. get_or (part (n * stride) d words) j m.zero) (d + N) row) where
     L : Remainder d N n table pivots (part (n * stride) d words) row
     L = record {
       room = omega arith;
@@ -207,14 +207,21 @@ module _ (m : FieldMeaning) (laws : FieldLaws m) where
 
   -- what a solver finds
   module _ (d n : ℕ) (v : ℕ → ℕ → Elem m) (table : List (List ℕ)) (pivots vector row : List ℕ) (is : length vector ≡ d) (G : Table m laws d n v table pivots) (narrow : length row ≤ pitch) (wide : Wide n table) (within : d + n ≤ length row) (given : Elems m vector)
-      (left : (k : ℕ) → k < d + n → get_or row k 0 ≡ reduced m.add m.mul m.neg (λ i j. get_or (get_or table i []) j 0) (λ i. get_or pivots i 0) (λ j. get_or vector j m.zero) n k) where
+      (left : Reduced m table pivots n (λ j. get_or vector j m.zero) (d + n) row) (first : Option ℕ) (is_first : FirstNonzero m d row first) where
     M : Remainder d n n table pivots vector row
     M = record { room = omega arith; wide = wide; is = is; within = within; elements = G.elements; pivot = G.echelon.pivot_in; given = given; left = left }
 
-    pub found : ((k : ℕ) → k < d → get_or row k 0 ≡ m.zero) → (out : List ℕ) → length out ≡ n → ((l : ℕ) → l < n → get_or out l 0 ≡ m.neg (get_or row (d + l) 0))
+    all_zero : (a : Option ℕ) → FirstNonzero m d row a → is_some a ≡ false → (k : ℕ) → k < d → get_or row k 0 ≡ m.zero
+    all_zero None zeros e = zeros
+    all_zero (Some place) h e = absurd (cc)
+
+    pub found : is_some first ≡ false → (out : List ℕ) → length out ≡ n → ((l : ℕ) → l < n → get_or out l 0 ≡ m.neg (get_or row (d + l) 0))
         → Elems m out × Combines F d n (read m laws out) v (read m laws vector)
-    found nothing out long opposites = (λ l h. WordLists.in_field m laws (F.neg (read m laws row (d + l))) _ (word l (omega arith)), combined)
+    found e out long opposites = (λ l h. WordLists.in_field m laws (F.neg (read m laws row (d + l))) _ (word l (omega arith)), combined)
       where
+        nothing : (k : ℕ) → k < d → get_or row k 0 ≡ m.zero
+        nothing = all_zero first is_first e
+
         word : (l : ℕ) → l < n → get_or out l 0 ≡ m.neg (read m laws row (d + l)).0
         word l h = opposites l h ∙ ap m.neg (sym (WordLists.read_word m laws row (d + l) (omega arith) (coefficients-in d n n v table pivots vector row M (read m laws vector) (λ k a. refl) G.echelon (omega arith) nothing l h)))
 
@@ -223,8 +230,15 @@ module _ (m : FieldMeaning) (laws : FieldLaws m) where
             combination d n n v table pivots vector row M (read m laws vector) (λ j a. refl) G.echelon (omega arith) nothing k h
             ∙ Sums.sum_ext F n _ _ (λ l a. ap (λ z. F.◌⊗◌ z (v l k)) (sym (WordLists.read_is m laws out l (F.neg (read m laws row (d + l))) (omega arith) (word l a))))
 
-    pub lost : (place : ℕ) → place < d → get_or row place 0 ≢ m.zero → (n ≢ d) × ((c : ℕ → Elem m) → Combines F d n c v (read m laws vector) → ⊥)
-    lost place h ne = (λ e. some (Eliminate.full F d n v _ _ G.echelon e (read m laws vector) place h), Eliminate.outside F d n v _ _ G.echelon (read m laws vector) place h some)
+    outside : (place : ℕ) → place < d → get_or row place 0 ≢ m.zero → (n ≢ d) × ((c : ℕ → Elem m) → Combines F d n c v (read m laws vector) → ⊥)
+    outside place h ne = (λ e. some (Eliminate.full F d n v _ _ G.echelon e (read m laws vector) place h), Eliminate.outside F d n v _ _ G.echelon (read m laws vector) place h some)
       where
         some : R (held m laws table) (λ i. get_or pivots i 0) (read m laws vector) n place ≢ F.zer
         some e = ne (left_word d n n v table pivots vector row M place (omega arith) ∙ ap (λ (x : Elem m). x.0) e)
+
+    pub lost : is_some first ≡ true → (n ≢ d) × ((c : ℕ → Elem m) → Combines F d n c v (read m laws vector) → ⊥)
+    lost = at first is_first
+      where
+        at : (a : Option ℕ) → FirstNonzero m d row a → is_some a ≡ true → (n ≢ d) × ((c : ℕ → Elem m) → Combines F d n c v (read m laws vector) → ⊥)
+        at None zeros e = absurd (cc)
+        at (Some place) h e = outside place h.0 h.1

@@ -1,17 +1,16 @@
--- What the tests of the elimination say of the words lent.
+-- What the tests of the elimination say of its numbers.
 --   has_room      the places, coordinates and rows
---   reaches       a vector of a family that is covered ends within its words
---   below_all     the pivots tested are places, and back
---   all_tested    one test of all of them says the same
---   both_passed   two tests that passed did not fail together
-use Rattle.std.proofs.Common.{◌≡◌, ℕ, zero, suc, ◌+◌, ◌-◌, ◌*◌, ◌<◌, ◌≤◌, Bool, true, false, ◌&&◌, ltb, leb, List, length, get_or, take, sym, refl, ap, ◌∙◌, add-one, add-mul, one-mul, arith, ltb-true, lt-ltb, leb-true}
+--   room_of       those of a family that fits
+--   reaches       a vector of a family that fits ends within its words
+--   all_tested    one test of all pivots, where there is room
+--   of_solvable   the room and the pivots, and back by to_solvable
+use Rattle.std.proofs.Common.{◌≡◌, ℕ, zero, suc, ◌+◌, ◌-◌, ◌*◌, ◌<◌, ◌≤◌, true, ◌&&◌, ltb, leb, List, length, get_or, take, sym, refl, ap, ◌∙◌, add-one, add-mul, one-mul, arith, ltb-true, lt-ltb, leb-true}
 use native.Mathlib.Decide.{ℕ_discrete}
-use borrow.Author.Tests.{both_ways}
 use Rattle.std.specs.List.{list_all}
 use Rattle.std.proofs.lemmas.List.Folds.{list_all_more}
 use Rattle.std.proofs.lemmas.Nat.{mul-le}
 use Rattle.std.proofs.lemmas.Bool.{and_parts, and_from}
-use Rattle.linear.specs.Elimination.{pitch, roomy, covers, below}
+use Rattle.linear.specs.Elimination.{pitch, roomy, covers, fits, below, Below, solvable}
 
 pub record Room (d n rows : ℕ) : Type 0 where
   pub coordinates : d + n ≤ pitch
@@ -25,14 +24,18 @@ has_room d n rows h =
     let l = leb-true n (pitch - d) b.1 in
     record { coordinates = omega arith; enough = leb-true n rows a.1 }
 
--- a vector of a family that is covered ends within its words
-pub reaches : (d n stride s l : ℕ) → covers d n stride s ≡ true → l < n → l * stride + d ≤ s
-reaches d n stride s l h b =
-    let a : n * stride - stride + d ≤ s = leb-true _ _ (and_parts (leb stride pitch) (leb (n * stride - stride + d) s) h).1 in
+pub room_of : (d n stride s rows : ℕ) → fits d n stride s rows ≡ true → Room d n rows
+room_of d n stride s rows h = has_room d n rows (and_parts (roomy d n rows) (covers d n stride s) h).0
+
+-- a vector of a family that fits ends within its words
+pub reaches : (d n stride s rows l : ℕ) → fits d n stride s rows ≡ true → l < n → l * stride + d ≤ s
+reaches d n stride s rows l h b =
+    let covered = (and_parts (roomy d n rows) (covers d n stride s) h).1 in
+    let a : n * stride - stride + d ≤ s = leb-true _ _ (and_parts (leb stride pitch) (leb (n * stride - stride + d) s) covered).1 in
     let k = mul-le (l + 1) stride n stride (omega arith) (omega arith) in
     omega (arith, add-mul l 1 stride, one-mul stride)
 
-pub below_all : (d n : ℕ) (pivots : List ℕ) → below d n pivots ≡ true → (i : ℕ) → i < n → get_or pivots i 0 < d
+below_all : (d n : ℕ) (pivots : List ℕ) → below d n pivots ≡ true → Below d n pivots
 below_all d zero pivots h i l = absurd (omega arith)
 below_all d (suc n) pivots h i l = at (ℕ_discrete i n) (below_all d n pivots (and_parts _ _ h).0 i)
   where
@@ -40,7 +43,7 @@ below_all d (suc n) pivots h i l = at (ℕ_discrete i n) (below_all d n pivots (
     at (yes e) rest = rw e (ltb-true _ _ (and_parts _ _ h).1)
     at (no e) rest = rest (omega arith)
 
-pub all_below : (d n : ℕ) (pivots : List ℕ) → ((i : ℕ) → i < n → get_or pivots i 0 < d) → below d n pivots ≡ true
+all_below : (d n : ℕ) (pivots : List ℕ) → Below d n pivots → below d n pivots ≡ true
 all_below d zero pivots h = refl
 all_below d (suc n) pivots h = and_from _ _ (all_below d n pivots (λ i l. h i (omega arith))) (lt-ltb _ _ (h n (omega arith)))
 
@@ -49,12 +52,11 @@ all_are_below : (d n : ℕ) (pivots : List ℕ) → n ≤ length pivots → list
 all_are_below d zero pivots h = refl
 all_are_below d (suc n) pivots h = ap (λ k. list_all (λ p. ltb p d) (take k pivots)) (sym (add-one n)) ∙ list_all_more (λ p. ltb p d) pivots n 0 h ∙ ap (λ b. b && ltb (get_or pivots n 0) d) (all_are_below d n pivots (omega arith))
 
-pub all_tested : (d n rows : ℕ) (pivots : List ℕ) → roomy d n rows ≡ true → rows ≤ length pivots → {b : Bool} → b ≡ list_all (λ p. ltb p d) (take n pivots) → below d n pivots ≡ b
-all_tested d n rows pivots room long e = sym (e ∙ all_are_below d n pivots (omega (arith, (has_room d n rows room).enough, long)))
+pub all_tested : (d n rows : ℕ) (pivots : List ℕ) → roomy d n rows ≡ true → rows ≤ length pivots → list_all (λ p. ltb p d) (take n pivots) ≡ solvable d n rows pivots
+all_tested d n rows pivots room long = all_are_below d n pivots (omega (arith, (has_room d n rows room).enough, long)) ∙ sym (ap (λ b. b && below d n pivots) room)
 
--- two tests that passed did not fail together
-pub both_passed : (a b : Bool) → a ≡ true → b ≡ true → (a && b) ≡ false → ⊥
-both_passed a b p q e = both_ways (a && b) e (and_from a b p q)
+pub of_solvable : (d n rows : ℕ) (pivots : List ℕ) → solvable d n rows pivots ≡ true → Room d n rows × Below d n pivots
+of_solvable d n rows pivots h = let b = and_parts (roomy d n rows) (below d n pivots) h in (has_room d n rows b.0, below_all d n pivots b.1)
 
-pub never_both : (a b : Bool) → b ≡ false → (a && b) ≡ true → ⊥
-never_both a b p e = both_ways b p (and_parts a b e).1
+pub to_solvable : (d n rows : ℕ) (pivots : List ℕ) → roomy d n rows ≡ true → Below d n pivots → solvable d n rows pivots ≡ true
+to_solvable d n rows pivots h b = and_from (roomy d n rows) (below d n pivots) h (all_below d n pivots b)

@@ -1,4 +1,4 @@
--- Elimination over lent words: what an echelon holds, and what each call answers.
+-- Elimination of a family of vectors: what an echelon holds, and what each call answers.
 --   pitch                                the words of one row
 --   rows m laws stride xs l k            the element at place k of row l, where the rows of a list begin stride words apart
 --   held m laws table l k                the element at place k of row l of a table, a list of rows
@@ -9,17 +9,20 @@
 --   roomy d n rows                       an echelon of so many rows has room for n rows of d places and n coordinates
 --   covers d n stride s                  s words have n rows of d places that begin stride words apart
 --   fits d n stride s rows               both
---   below d n pivots                     the first n pivots are places below d
+--   below d n pivots                     the first n pivots are places below d, as a test
+--   Below d n pivots                     so they are
 --   solvable d n rows pivots             there is room, and the pivots are places
+--   Reduced m table pivots n x w row     the first w words of the row are what the first n rows of the table leave of the words x
+--   FirstNonzero m n row a               a is the first of n places of the row whose word is not zero, and none where all are zero
 --   Stepped .. a                         what taking one more vector answers
 --   Eliminated m laws d n v .. a         what the elimination of v 0 .. v (n - 1) answers
 --   Solved m laws d n v b out a          what the solver answers for the words b over v 0 .. v (n - 1)
 -- Used by: the contracts of the elimination.
-use Rattle.std.specs.Prelude.{◌≡◌, ℕ, zero, suc, ◌+◌, ◌-◌, ◌*◌, ◌<◌, Bool, true, ◌&&◌, T, ◌≢◌, List, [], length, Ok, Err, Result, nat_le, nat_lt, slice_index, slice_index_or}
+use Rattle.std.specs.Prelude.{◌≡◌, ℕ, zero, suc, ◌+◌, ◌-◌, ◌*◌, ◌<◌, Bool, true, ◌&&◌, T, ◌≢◌, List, [], length, MatchOption, Ok, Err, Option, Result, nat_le, nat_lt, slice_index, slice_index_or}
 use Rattle.field.specs.Meaning.{FieldMeaning, FieldLaws}
 use Rattle.algebra.specs.Vector.{Least, Combines, Independent}
 use Rattle.algebra.specs.Elements.{Elem, Elems, field_of, read}
-use Rattle.linear.specs.Echelon.{Depends, Echelon, Taken}
+use Rattle.linear.specs.Echelon.{reduced, Depends, Echelon, Taken}
 use Rattle.linear.specs.declared.elimination.EliminateFault.{EliminateFault}
 use Rattle.linear.specs.declared.elimination.EliminateFault.TheVariants.{NoRoom, Depends as First}
 use Rattle.linear.specs.declared.elimination.SolveFault.{SolveFault}
@@ -41,11 +44,21 @@ abbrev pub below : ℕ → ℕ → List ℕ → Bool
 below d zero pivots = true
 below d (suc n) pivots = below d n pivots && nat_lt (slice_index pivots n) d
 
+abbrev pub Below : ℕ → ℕ → List ℕ → Type 0
+Below d n pivots = (i : ℕ) → i < n → slice_index pivots i < d
+
 abbrev pub solvable : ℕ → ℕ → ℕ → List ℕ → Bool
 solvable d n rows pivots = roomy d n rows && below d n pivots
 
 abbrev pub Wide : ℕ → List (List ℕ) → Type 0
 Wide n table = (i : ℕ) → i < n → length (slice_index_or table i []) ≡ pitch
+
+module _ (m : FieldMeaning) where
+  abbrev pub Reduced : List (List ℕ) → List ℕ → ℕ → (ℕ → ℕ) → ℕ → List ℕ → Type 0
+  Reduced table pivots n x w row = (k : ℕ) → k < w → slice_index row k ≡ reduced m.add m.mul m.neg (λ i j. slice_index (slice_index_or table i []) j) (λ i. slice_index pivots i) x n k
+
+  abbrev pub FirstNonzero : ℕ → List ℕ → Option ℕ → Type 0
+  FirstNonzero n row a = MatchOption a ((k : ℕ) → k < n → slice_index row k ≡ m.zero) (λ p. (p < n) × (slice_index row p ≢ m.zero) × ((k : ℕ) → k < p → slice_index row k ≡ m.zero))
 
 module _ (m : FieldMeaning) (laws : FieldLaws m) where
   abbrev pub rows : ℕ → List ℕ → ℕ → ℕ → Elem m

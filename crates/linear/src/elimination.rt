@@ -1,12 +1,10 @@
 // Elimination over the words of any field: which vector of a family is the first that depends on
 // those before it, and the coefficients of a vector over independent ones.
 // Works in memory of its own, and touches nothing else but the output that is lent for a solution.
-ghost use Rattle.std.specs.Prelude.{◌≡◌, ℕ, ◌+◌, ◌*◌, ◌<◌, ◌≤◌, true, false, nat_lt, ◌≢◌, [], length, get_or, replicate, MatchOption, Err, OnOk, OnErr, IsErrOf, slice_index, slice_index_or};
-ghost use Rattle.std.specs.List.{list_all};
+ghost use Rattle.std.specs.Prelude.{◌≡◌, ℕ, ◌+◌, ◌*◌, ◌<◌, ◌≤◌, true, false, ◌≢◌, length, replicate, Err, OnOk, OnErr, IsErrOf, slice_index, slice_index_or};
 ghost use Rattle.field.specs.Meaning.{FieldLaws};
 ghost use Rattle.algebra.specs.Elements.{Elem, Elems};
-ghost use Rattle.linear.specs.Echelon.{reduced};
-ghost use Rattle.linear.specs.Elimination.{pitch, roomy, covers, fits, solvable, rows, Wide, Table, Growing, Stepped, Eliminated, Solved};
+ghost use Rattle.linear.specs.Elimination.{pitch, roomy, fits, Below, solvable, rows, Wide, Table, Growing, Reduced, FirstNonzero, Stepped, Eliminated, Solved};
 
 mod rows;
 
@@ -55,19 +53,16 @@ fn has_room(places: usize, count: usize, rows: usize) -> bool
     places <= PITCH && count <= PITCH - places && count <= rows
 }
 
-// Whether the words hold the whole family.
-fn is_covered(places: usize, count: usize, stride: usize, words: usize) -> bool
-    requires { (places ≤ pitch) × (count ≤ pitch) }
-    ensures { result ≡ covers places count stride words }
-{
-    stride <= PITCH && (count * stride).saturating_sub(stride) + places <= words
-}
-
-// Whether the pivots are places.
-fn are_places(pivots: &[usize], places: usize) -> bool
-    ensures { result ≡ list_all (λ p. nat_lt p places) pivots.now }
-{
-    pivots.iter().all(|pivot| *pivot < places)
+impl Family<'_> {
+    // Whether so many rows have room for the family, and its words hold it all.
+    fn fits(self, rows: usize) -> bool
+        ensures { result ≡ fits self.entry.places self.entry.count self.entry.stride (length self.entry.words.now) rows }
+    {
+        has_room(self.places, self.count, rows)
+            && self.stride <= PITCH
+            && (self.count * self.stride).saturating_sub(self.stride) + self.places
+                <= self.words.len()
+    }
 }
 
 impl<const ROWS: usize> Echelon<ROWS> {
@@ -88,10 +83,10 @@ impl<const ROWS: usize> Echelon<ROWS> {
     fn reduce<F: Field>(&mut self, field: &F, count: usize, width: usize)
         requires rows { count ≤ ROWS }
         requires width { width ≤ pitch }
-        requires within { (i : ℕ) → i < count → slice_index self.old.pivots i < width }
+        requires within { Below width count self.old.pivots }
         ensures rows { self.new.rows ≡ self.old.rows }
         ensures pivots { self.new.pivots ≡ self.old.pivots }
-        ensures reduced { (k : ℕ) → k < width → slice_index self.new.work k ≡ reduced (F.Field.meaning field.now).add (F.Field.meaning field.now).mul (F.Field.meaning field.now).neg (λ i j. slice_index (slice_index_or self.old.rows i []) j) (λ i. slice_index self.old.pivots i) (λ j. slice_index self.old.work j) count k }
+        ensures reduced { Reduced (F.Field.meaning field.now) self.old.rows self.old.pivots count (λ j. slice_index self.old.work j) width self.new.work }
     {
         let work = &mut self.work;
         for (pivot, above) in self.pivots[..count].iter().zip(&self.rows) {
@@ -114,12 +109,12 @@ impl<const ROWS: usize> Echelon<ROWS> {
         requires width { width ≤ pitch }
         requires room { length vector.now ≤ width }
         requires rows { count ≤ ROWS }
-        requires within { (i : ℕ) → i < count → slice_index self.old.pivots i < length vector.now }
+        requires within { Below (length vector.now) count self.old.pivots }
         ensures rows { self.new.rows ≡ self.old.rows }
         ensures pivots { self.new.pivots ≡ self.old.pivots }
         ensures work { length self.new.work ≡ pitch }
-        ensures left { (k : ℕ) → k < width → slice_index self.new.work k ≡ reduced (F.Field.meaning field.now).add (F.Field.meaning field.now).mul (F.Field.meaning field.now).neg (λ i j. slice_index (slice_index_or self.old.rows i []) j) (λ i. slice_index self.old.pivots i) (λ j. get_or vector.now j (F.Field.meaning field.now).zero) count k }
-        ensures place { MatchOption result ((k : ℕ) → k < length vector.now → slice_index self.new.work k ≡ (F.Field.meaning field.now).zero) (λ p. (p < length vector.now) × (slice_index self.new.work p ≢ (F.Field.meaning field.now).zero) × ((k : ℕ) → k < p → slice_index self.new.work k ≡ (F.Field.meaning field.now).zero)) }
+        ensures left { Reduced (F.Field.meaning field.now) self.old.rows self.old.pivots count (λ j. slice_index_or vector.now j (F.Field.meaning field.now).zero) width self.new.work }
+        ensures place { FirstNonzero (F.Field.meaning field.now) (length vector.now) self.new.work result }
     {
         rows::begin(field, &mut self.work, vector);
         self.reduce(field, count, width);
@@ -132,19 +127,19 @@ impl<const ROWS: usize> Echelon<ROWS> {
         requires room { family.places + family.count ≤ pitch }
         requires coordinate { n < family.count }
         requires rows { n < ROWS }
-        requires within { (i : ℕ) → i < n → slice_index self.old.pivots i < family.places }
-        ensures within { OnOk result ((i : ℕ) → i < n + 1 → slice_index self.new.pivots i < family.entry.places) }
+        requires within { Below family.places n self.old.pivots }
+        ensures within { OnOk result (Below family.entry.places (n + 1) self.new.pivots) }
         ensures stepped { (laws : FieldLaws (F.Field.meaning field.now)) → Elems (F.Field.meaning field.now) family.entry.words.now → Growing (F.Field.meaning field.now) laws family.entry.places family.entry.count n (rows (F.Field.meaning field.now) laws family.entry.stride family.entry.words.now) self.old.rows self.old.pivots → Stepped (F.Field.meaning field.now) laws family.entry.places family.entry.count n (rows (F.Field.meaning field.now) laws family.entry.stride family.entry.words.now) self.new.rows self.new.pivots self.new.work result }
     {
         let start = n * family.stride;
         let vector = &family.words[start..start + family.places];
         let width = family.places + family.count;
-        let Some(place) = self.remainder(field, n, vector, width) else {
-            return Err(EliminateFault::Depends(n));
-        };
-        let Some(q) = field.inverse(self.work[place]) else {
-            return Err(EliminateFault::NoRoom);
-        };
+        let place = self
+            .remainder(field, n, vector, width)
+            .ok_or(EliminateFault::Depends(n))?;
+        let q = field
+            .inverse(self.work[place])
+            .ok_or(EliminateFault::NoRoom)?;
         self.work[family.places + n] = field.one();
         self.rows[n] = rows::scaled(field, &self.work[..width], q);
         self.pivots[n] = place;
@@ -157,22 +152,22 @@ impl<const ROWS: usize> Echelon<ROWS> {
         ensures refused { fits family.entry.places family.entry.count family.entry.stride (length family.entry.words.now) ROWS ≡ false → IsErrOf result EliminateFault.NoRoom × (self.new.rows ≡ self.old.rows) × (self.new.pivots ≡ self.old.pivots) × (self.new.work ≡ self.old.work) }
         ensures eliminated { fits family.entry.places family.entry.count family.entry.stride (length family.entry.words.now) ROWS ≡ true → (laws : FieldLaws (F.Field.meaning field.now)) → Elems (F.Field.meaning field.now) family.entry.words.now → Eliminated (F.Field.meaning field.now) laws family.entry.places family.entry.count (rows (F.Field.meaning field.now) laws family.entry.stride family.entry.words.now) self.new.rows self.new.pivots self.new.work result }
     {
-        if !has_room(family.places, family.count, ROWS) {
+        if !family.fits(ROWS) {
             return Err(EliminateFault::NoRoom);
         }
-        if !is_covered(
-            family.places,
-            family.count,
-            family.stride,
-            family.words.len(),
-        ) {
-            return Err(EliminateFault::NoRoom);
-        }
-        // By number: `take` wants the number of the vector, and the rows before it.
+        // By number: vectors that may overlap are no items of a slice, and `take` is told which one it is.
         for n in 0..family.count {
             self.take(field, family, n)?;
         }
         Ok(())
+    }
+
+    // Whether there is room for so many rows beside vectors of so many places, and their pivots are
+    // places.
+    fn is_solvable(&self, places: usize, count: usize) -> bool
+        ensures { result ≡ solvable places count ROWS self.now.pivots }
+    {
+        has_room(places, count, ROWS) && self.pivots[..count].iter().all(|pivot| *pivot < places)
     }
 
     // Writes into `out` the coefficients by which the vectors that an elimination took combine to the
@@ -191,13 +186,11 @@ impl<const ROWS: usize> Echelon<ROWS> {
         ensures solved { roomy (length vector.now) (length out.old) ROWS ≡ true → (laws : FieldLaws (F.Field.meaning field.now)) (v : ℕ → ℕ → Elem (F.Field.meaning field.now)) → Elems (F.Field.meaning field.now) vector.now → Table (F.Field.meaning field.now) laws (length vector.now) (length out.old) v self.old.rows self.old.pivots → Solved (F.Field.meaning field.now) laws (length vector.now) (length out.old) v vector.now out.new result }
     {
         let count = out.len();
-        if !has_room(vector.len(), count, ROWS) {
+        if !self.is_solvable(vector.len(), count) {
             return Err(SolveFault::NoRoom);
         }
-        if !are_places(&self.pivots[..count], vector.len()) {
-            return Err(SolveFault::NoRoom);
-        }
-        if let Some(_) = self.remainder(field, count, vector, vector.len() + count) {
+        let left = self.remainder(field, count, vector, vector.len() + count);
+        if left.is_some() {
             return Err(SolveFault::Outside);
         }
         rows::opposites(field, &self.work, vector.len(), out);

@@ -1,12 +1,11 @@
-use Rattle.std.proofs.Common.{ℕ, ◌<◌, get_or}
+use Rattle.std.proofs.Common.{◌≡◌, true, length}
 use Rattle.field.specs.Meaning.{FieldLaws}
 use Rattle.algebra.specs.Elements.{Elems}
-use Rattle.linear.specs.Elimination.{rows, Growing}
-use Rattle.linear.proofs.Room.{Room}
+use Rattle.linear.specs.Elimination.{fits, Below, rows, Growing}
 use Rattle.linear.proofs.elimination.Echelon.eliminate.Given as goal
 
 abbrev pub invariant-loop-n : goal.invariant-loop-n
 invariant-loop-n g l = let m = g.F.Field.meaning l.field in
-    Room l.family.places l.family.count g.row.ROWS
-    × ((i : ℕ) → i < l.n → get_or l.self.pivots i 0 < l.family.places)
+    (fits l.family.places l.family.count l.family.stride (length l.family.words.now) g.row.ROWS ≡ true)
+    × Below l.family.places l.n l.self.pivots
     × ((laws : FieldLaws m) → Elems m l.family.words.now → Growing m laws l.family.places l.family.count l.n (rows m laws l.family.stride l.family.words.now) l.self.rows l.self.pivots)
