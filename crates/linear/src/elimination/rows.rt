@@ -1,6 +1,6 @@
 // The loops of the elimination over the words of one row.
-ghost use Rattle.std.specs.Prelude.{◌≡◌, ℕ, ◌+◌, ◌<◌, ◌≤◌, ◌≢◌, length, MatchOption, slice_index, slice_index_or};
-ghost use Rattle.linear.specs.Elimination.{pitch};
+ghost use Rattle.std.specs.Prelude.{◌≡◌, ℕ, ◌+◌, ◌<◌, ◌≤◌, length, slice_index, slice_index_or};
+ghost use Rattle.linear.specs.Elimination.{pitch, FirstNonzero};
 
 use field::Field;
 
@@ -20,7 +20,7 @@ pub(super) fn begin<F: Field>(field: &F, row: &mut [u32], vector: &[u32])
 // The first place, of so many, whose word is not zero.
 pub(super) fn first_nonzero<F: Field>(field: &F, row: &[u32], places: usize) -> Option<usize>
     requires { places ≤ length row.now }
-    ensures { MatchOption result ((k : ℕ) → k < places → slice_index row.now k ≡ (F.Field.meaning field.now).zero) (λ p. (p < places) × (slice_index row.now p ≢ (F.Field.meaning field.now).zero) × ((k : ℕ) → k < p → slice_index row.now k ≡ (F.Field.meaning field.now).zero)) }
+    ensures { FirstNonzero (F.Field.meaning field.now) places row.now result }
 {
     let zero = field.zero();
     row[..places].iter().position(|word| *word != zero)
@@ -33,8 +33,10 @@ pub(super) fn scaled<F: Field>(field: &F, words: &[u32], q: u32) -> [u32; PITCH]
     ensures words { (k : ℕ) → k < length words.now → slice_index result k ≡ (F.Field.meaning field.now).mul q (slice_index words.now k) }
 {
     let mut row = [0; PITCH];
-    for (k, word) in words.iter().enumerate() {
-        row[k] = field.mul(q, *word);
+    let front = &mut row[..words.len()];
+    front.copy_from_slice(words);
+    for word in front.iter_mut() {
+        *word = field.mul(q, *word);
     }
     row
 }
@@ -44,7 +46,8 @@ pub(super) fn opposites<F: Field>(field: &F, row: &[u32], start: usize, out: &mu
     requires { start + length out.old ≤ length row.now }
     ensures { (l : ℕ) → l < length out.old → slice_index out.new l ≡ (F.Field.meaning field.now).neg (slice_index row.now (start + l)) }
 {
-    for (l, word) in row[start..start + out.len()].iter().enumerate() {
-        out[l] = field.neg(*word);
+    out.copy_from_slice(&row[start..start + out.len()]);
+    for word in out.iter_mut() {
+        *word = field.neg(*word);
     }
 }
