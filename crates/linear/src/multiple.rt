@@ -11,6 +11,7 @@ pub fn add_multiple<F: Field>(field: &F, word: u32, from: &[u32], to: &mut [u32]
     ensures sums { to.new ≡ added (F.Field.meaning field.now) word from.now to.old }
     ensures elements { Elems (F.Field.meaning field.now) to.old → Elems (F.Field.meaning field.now) to.new }
 {
+    // By number: of words that `zip` over `iter_mut` hands out for writing, a proof is told nothing after.
     let both = from.len().min(to.len());
     for (i, x) in from[..both].iter().enumerate() {
         to[i] = field.add(to[i], field.mul(word, *x));
