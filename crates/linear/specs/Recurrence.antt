@@ -9,7 +9,7 @@
 --   Room s c b spare    each of the three lists is longer than s
 --   ShortestBy m laws s c l  l is the least length of a recurrence of the elements that the words s stand for, and c holds a connection polynomial of that length
 --   Shortest m s c l    so it is under every proof of the laws
--- Used by: the least recurrence length of lent words, and tables.
+-- Used by: the least recurrence length of words, and tables.
 use Rattle.std.specs.Prelude.{◌≡◌, ℕ, zero, suc, ◌+◌, ◌-◌, ◌<◌, ◌≤◌, ◌≢◌, ◌↔◌, List, length}
 use Rattle.field.specs.Meaning.{FieldMeaning, FieldLaws}
 use Rattle.algebra.specs.Field.{Field}

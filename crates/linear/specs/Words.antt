@@ -3,7 +3,7 @@
 --   dot_words m xs ys    the products of the words at one place in both lists, summed
 --   DotOf m xs ys w     w is the word of the dot product of the elements that xs and ys stand for
 --   added m w xs ys      ys with w times each word of xs added at its place, over the length that both have
--- Used by: the kernels over lent words.
+-- Used by: the kernels over words.
 use Rattle.std.specs.Prelude.{◌≡◌, ℕ, zero, suc, min, List, [], ◌∷◌, length, slice_index}
 use Rattle.field.specs.Meaning.{FieldMeaning, FieldLaws}
 use Rattle.algebra.specs.Vector.{dot}

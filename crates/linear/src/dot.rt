@@ -1,4 +1,4 @@
-// The dot product of lent words.
+// The dot product of words.
 ghost use Rattle.std.specs.Prelude.{◌≡◌, T};
 ghost use Rattle.linear.specs.Words.{DotOf, dot_words};
 

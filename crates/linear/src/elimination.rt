@@ -12,8 +12,8 @@ use crate::multiple::add_multiple;
 use field::Field;
 pub use rows::PITCH;
 
-// Vectors of `places` words each that begin `stride` words apart. They may overlap, as the rows of a
-// Hankel table do in their sequence.
+// Vectors of `places` words each that begin `stride` words apart.
+// No slice of rows and no `chunks`, but a stride and a count: they may overlap, as a Hankel table's rows do.
 #[derive(Clone, Copy)]
 pub struct Family<'a> {
     pub words: &'a [u32],
@@ -22,15 +22,15 @@ pub struct Family<'a> {
     pub count: usize,
 }
 
-// Why not all vectors of a family were taken: what was lent does not fit or a word is no element, or
-// the vector at a place is the first that depends on those before it.
+// Why not all vectors of a family were taken: there is no room for them, their words are too few or one
+// is no element; or the vector at a place is the first that depends on those before it.
 #[derive(Clone, Copy, PartialEq, Eq, Debug)]
 pub enum EliminateFault {
     NoRoom,
     Depends(usize),
 }
 
-// Why a vector was not solved for: what was lent does not fit, or the vector is no combination.
+// Why a vector was not solved for: there is no room or a pivot is no place, or it is no combination.
 #[derive(Clone, Copy, PartialEq, Eq, Debug)]
 pub enum SolveFault {
     NoRoom,
@@ -155,7 +155,7 @@ impl<const ROWS: usize> Echelon<ROWS> {
         if !family.fits(ROWS) {
             return Err(EliminateFault::NoRoom);
         }
-        // By number: vectors that may overlap are no items of a slice, and `take` is told which one it is.
+        // By number, which `take` is told; `windows` refuses no places and `step_by` no stride, and both may be 0.
         for n in 0..family.count {
             self.take(field, family, n)?;
         }

@@ -1,5 +1,5 @@
-// Berlekamp and Massey: the least length of a linear recurrence of lent words, and its connection
-// polynomial. Work words are lent too.
+// Berlekamp and Massey: the least length of a linear recurrence of words, and its connection
+// polynomial. The words to work in are lent.
 ghost use Rattle.std.specs.Prelude.{◌≡◌, ℕ, ◌+◌, ◌-◌, ◌<◌, ◌≤◌, ◌++◌, length, take, drop, IfSome, IfNone, MatchOption, slice_index};
 ghost use Rattle.linear.specs.Words.{sum_words, added};
 ghost use Rattle.linear.specs.Recurrence.{Room, Shortest};
@@ -10,7 +10,7 @@ use field::Field;
 
 // What stands between two words: the length of the polynomial, how many words ago the one before
 // the latest change of length failed, and by what.
-// Not one struct with c, b and spare: a copy of one to another behind `&mut self` gets no proof yet.
+// Without c, b and spare: a field that is a reference can't be read behind `&mut self` while another is lent.
 #[derive(Clone, Copy)]
 struct Stage {
     length: usize,
@@ -118,7 +118,7 @@ fn shortest<F: Field>(
         lag: 1,
         miss: field.one(),
     };
-    // By number: each turn reads all words up to the word n.
+    // By number: turn n reads back from the word n, and not that word alone.
     for n in 0..s.len() {
         stage = turn(field, s, n, c, b, spare, stage);
     }
