@@ -1,6 +1,5 @@
 -- Words with a multiple of words added: one place more, all places, and what stands at a place then.
-use Rattle.std.proofs.Common.{◌≡◌, ℕ, zero, suc, ◌-◌, ◌<◌, ◌≤◌, min, List, [], ◌∷◌, ◌++◌, length, get_or, take, drop, set, refl, ap, ◌∙◌, ap₂, arith}
-use Rattle.std.proofs.lemmas.List.{append-nil, length-drop, drop_all}
+use Rattle.std.proofs.Common.{◌≡◌, ℕ, zero, suc, ◌<◌, ◌≤◌, min, List, [], ◌∷◌, length, get_or, take, set, refl, ap, arith}
 use Rattle.field.specs.Meaning.{FieldMeaning}
 use Rattle.linear.specs.Words.{added}
 
@@ -29,7 +28,3 @@ module _ (m : FieldMeaning) (w : ℕ) where
   added_at (x ∷ xs) [] k l l' = absurd (omega arith)
   added_at (x ∷ xs) (y ∷ ys) zero l l' = refl
   added_at (x ∷ xs) (y ∷ ys) (suc k) l l' = added_at xs ys k (omega arith) (omega arith)
-
--- a part to the end, written over
-pub end_replaced : (xs ys zs : List ℕ) (k : ℕ) → ys ≡ zs → take k xs ++ (ys ++ drop (length xs - k) (drop k xs)) ≡ take k xs ++ zs
-end_replaced xs ys zs k e = ap₂ (λ (us ws : List ℕ). take k xs ++ (us ++ ws)) e (drop_all (length xs - k) (drop k xs) (simp length-drop (omega arith))) ∙ ap (λ (us : List ℕ). take k xs ++ us) (append-nil zs)

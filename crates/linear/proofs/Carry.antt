@@ -202,9 +202,6 @@ module _ (m : FieldMeaning) (laws : FieldLaws m) where
   failed d N n v table pivots row NoRoom h s = s
   failed d N n v table pivots row (First j) h (e, G, r) = rw e (h, first_of d N n v table pivots row G r, table_of d N n v table pivots (omega arith) G, r)
 
-  pub nothing_taken : (d N : ℕ) (v : ℕ → ℕ → Elem m) (table : List (List ℕ)) (pivots : List ℕ) → Growing m laws d N 0 v table pivots
-  nothing_taken d N v table pivots = record { elements = λ i k a b. absurd (omega arith); taken = Eliminate.none_taken F d N v _ _ }
-
   -- what a solver finds
   module _ (d n : ℕ) (v : ℕ → ℕ → Elem m) (table : List (List ℕ)) (pivots vector row : List ℕ) (is : length vector ≡ d) (G : Table m laws d n v table pivots) (narrow : length row ≤ pitch) (wide : Wide n table) (within : d + n ≤ length row) (given : Elems m vector)
       (left : Reduced m table pivots n (λ j. get_or vector j m.zero) (d + n) row) (first : Option ℕ) (is_first : FirstNonzero m d row first) where

@@ -10,7 +10,7 @@ use Rattle.field.specs.Meaning.{FieldMeaning, FieldLaws, FieldTotal}
 use Rattle.algebra.specs.Vector.{apply}
 use Rattle.algebra.specs.Elements.{Elem, Elems, field_of, el, read}
 use Rattle.linear.specs.Words.{sum_words, added}
-use Rattle.linear.specs.Step.{Within, Fits, entry, row_words, product_words, matrix, Stepped}
+use Rattle.linear.specs.Step.{Fits, entry, row_words, product_words, matrix, Stepped}
 use Rattle.linear.specs.declared.step.Place.{Place}
 use Rattle.linear.specs.declared.step.Place.TheVariants.{Stair, Border}
 use Rattle.algebra.proofs.Laws
@@ -18,13 +18,6 @@ use Rattle.algebra.proofs.Elements
 use Rattle.linear.proofs.Reading
 use Rattle.linear.proofs.Adding
 use Rattle.linear.proofs.Fronts
-
--- the first d places, cut off, lie within as they did
-pub front_within : (d : ℕ) (places : List Place) (room stride words rows : ℕ) → Fits d places room stride words rows → (i : ℕ) → i < length (take (d - 0) places) → Within (length (take (d - 0) places)) room stride (get_or (take (d - 0) places) i (Stair 0))
-front_within d places room stride words rows f i l =
-    let e = Fronts.front_length places d f.enough_places in
-    subst (λ n. Within n room stride (get_or (take (d - 0) places) i (Stair 0))) (sym e)
-    (subst (Within d room stride) (sym (get_or-take (d - 0) places i (Stair 0) (omega (arith, e)))) (f.within i (omega (arith, e))))
 
 module _ (m : FieldMeaning) (laws : FieldLaws m) (out : FieldTotal m) where
   -- a sum is an element, whatever is added

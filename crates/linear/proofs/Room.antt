@@ -1,16 +1,13 @@
 -- What the tests of the elimination say of its numbers.
 --   has_room      the places, coordinates and rows
---   room_of       those of a family that fits
---   reaches       a vector of a family that fits ends within its words
 --   all_tested    one test of all pivots, where there is room
 --   of_solvable   the room and the pivots, and back by to_solvable
-use Rattle.std.proofs.Common.{◌≡◌, ℕ, zero, suc, ◌+◌, ◌-◌, ◌*◌, ◌<◌, ◌≤◌, true, ◌&&◌, ltb, leb, List, length, get_or, take, sym, refl, ap, ◌∙◌, add-one, add-mul, one-mul, arith, ltb-true, lt-ltb, leb-true}
+use Rattle.std.proofs.Common.{◌≡◌, ℕ, zero, suc, ◌+◌, ◌-◌, ◌<◌, ◌≤◌, true, ◌&&◌, ltb, List, length, get_or, take, sym, refl, ap, ◌∙◌, add-one, arith, ltb-true, lt-ltb, leb-true}
 use native.Mathlib.Decide.{ℕ_discrete}
 use Rattle.std.specs.List.{list_all}
 use Rattle.std.proofs.lemmas.List.Folds.{list_all_more}
-use Rattle.std.proofs.lemmas.Nat.{mul-le}
 use Rattle.std.proofs.lemmas.Bool.{and_parts, and_from}
-use Rattle.linear.specs.Elimination.{pitch, roomy, covers, fits, below, Below, solvable}
+use Rattle.linear.specs.Elimination.{pitch, roomy, below, Below, solvable}
 
 pub record Room (d n rows : ℕ) : Type 0 where
   pub coordinates : d + n ≤ pitch
@@ -23,17 +20,6 @@ has_room d n rows h =
     let k = leb-true d pitch b.0 in
     let l = leb-true n (pitch - d) b.1 in
     record { coordinates = omega arith; enough = leb-true n rows a.1 }
-
-pub room_of : (d n stride s rows : ℕ) → fits d n stride s rows ≡ true → Room d n rows
-room_of d n stride s rows h = has_room d n rows (and_parts (roomy d n rows) (covers d n stride s) h).0
-
--- a vector of a family that fits ends within its words
-pub reaches : (d n stride s rows l : ℕ) → fits d n stride s rows ≡ true → l < n → l * stride + d ≤ s
-reaches d n stride s rows l h b =
-    let covered = (and_parts (roomy d n rows) (covers d n stride s) h).1 in
-    let a : n * stride - stride + d ≤ s = leb-true _ _ (and_parts (leb stride pitch) (leb (n * stride - stride + d) s) covered).1 in
-    let k = mul-le (l + 1) stride n stride (omega arith) (omega arith) in
-    omega (arith, add-mul l 1 stride, one-mul stride)
 
 below_all : (d n : ℕ) (pivots : List ℕ) → below d n pivots ≡ true → Below d n pivots
 below_all d zero pivots h i l = absurd (omega arith)

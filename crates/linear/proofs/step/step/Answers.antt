@@ -1,17 +1,7 @@
-use Rattle.std.proofs.Common.{sym, refl, ◌∙◌}
+use Rattle.std.proofs.Common.{refl, ◌∙◌}
 use Rattle.linear.proofs.Columns
 use Rattle.linear.proofs.Fronts
 use Rattle.linear.proofs.step.step.Goals as goal
-
-pub fill_product-requires : goal.fill_product-requires
-fill_product-requires g c =
-    let fit = c.if-not-fits.ensures.0 tt in
-    let front = Fronts.front_length c.args.matrix.places.now c.args.d fit.enough_places in
-    record {
-      words = Fronts.front_length c.args.v.now c.args.d fit.enough_words ∙ sym front;
-      rows = Fronts.front_length c.args.out.now c.args.d fit.enough_rows ∙ sym front;
-      within = Columns.front_within c.args.d c.args.matrix.places.now _ c.args.matrix.stride _ _ fit;
-    }
 
 pub returns : goal.returns
 returns g c =

@@ -1,19 +1,9 @@
-use Rattle.std.proofs.Common.{◌≡◌, sym, subst, arith, rules}
+use Rattle.std.proofs.Common.{◌≡◌, subst, arith}
 use borrow.Author.Tests.{both_ways}
 use Rattle.std.proofs.lemmas.Result.{err_from_is_err_and}
 use Rattle.linear.specs.Elimination.{rows, Growing}
-use Rattle.linear.proofs.Room.{room_of, reaches}
-use Rattle.linear.proofs.Carry.{nothing_taken, table_of, failed}
+use Rattle.linear.proofs.Carry.{table_of, failed}
 use Rattle.linear.proofs.elimination.Echelon.eliminate.Goals as goal
-
-pub loop-n-init : goal.loop-n-init
-loop-n-init g c = (sym c.if-not-fits.ensures, λ i h. absurd (omega arith), λ laws given. nothing_taken _ laws _ _ _ _ _)
-
-pub take-requires : goal.take-requires
-take-requires g c =
-    let fits = c.loop-n.invariant.0 in
-    let room = room_of _ _ _ _ _ fits in
-    (search rules, (reaches _ c.args.family.count _ _ _ _ fits c.loop-n-test.true, (room.coordinates, (c.loop-n-test.true, (omega arith, c.loop-n.invariant.1)))))
 
 pub returns-in_err-take : goal.returns-in_err-take
 returns-in_err-take g c = record {
