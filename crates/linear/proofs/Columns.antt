@@ -1,7 +1,7 @@
 -- A column times a word, added to words: what is skipped, added without a product, or added by products is the same sum.
-use Rattle.std.proofs.Common.{◌≡◌, ℕ, zero, suc, ◌+◌, ◌-◌, ◌*◌, ◌<◌, ◌≤◌, Bool, true, false, cond, ◌&&◌, T, List, [], ◌∷◌, ◌++◌, map, length, get_or, take, drop, set, sym, refl, ap, ◌∙◌, subst, ap₂, add-one, arith, length-drop, length-take, get_or-drop, get_or-set_other, get_or-take, get_or-set_same}
+use Rattle.std.proofs.Common.{◌≡◌, ℕ, zero, suc, ◌+◌, ◌*◌, ◌<◌, ◌≤◌, Bool, true, false, cond, ◌&&◌, T, List, [], ◌∷◌, ◌++◌, map, length, get_or, take, drop, set, sym, refl, ap, ◌∙◌, subst, ap₂, add-one, arith, length-drop, length-take, get_or-drop, get_or-set_other, get_or-take, get_or-set_same}
 use mathlib.Core.Path.{fun_ext}
-use native.Mathlib.Nat.{sub-zero}
+use Rattle.std.proofs.lemmas.List.{length-append, length-take-le, take_at}
 use native.Mathlib.Decide.{ℕ_discrete}
 use Rattle.std.specs.List.{range_with_len}
 use Rattle.std.proofs.lemmas.Bool.{eq-eqb, ne_eqb}
@@ -17,7 +17,6 @@ use Rattle.algebra.proofs.Laws
 use Rattle.algebra.proofs.Elements
 use Rattle.linear.proofs.Reading
 use Rattle.linear.proofs.Adding
-use Rattle.linear.proofs.Fronts
 
 module _ (m : FieldMeaning) (laws : FieldLaws m) (out : FieldTotal m) where
   -- a sum is an element, whatever is added
@@ -87,8 +86,8 @@ module _ (m : FieldMeaning) (laws : FieldLaws m) (out : FieldTotal m) where
         ap (λ (f : ℕ → ℕ). map f (range_with_len 0 d))
         (fun_ext (λ j. Reading.sum_same m d _ _ (λ i l. ap₂ (λ (p : Place) (w : ℕ). m.mul (entry m columns stride p j) w) (get_or-take d places i (Stair 0) l) (get_or-take d v i 0 l))))
 
-    pub product_of_front : (d : ℕ) (v : List ℕ) → d ≤ length places → product_words m (length (take (d - 0) places)) (take (d - 0) places) columns stride (take (d - 0) v) ≡ product_words m d places columns stride v
-    product_of_front d v l = ap₂ (λ n k. product_words m n (take k places) columns stride (take k v)) (Fronts.front_length places d l) (sub-zero d) ∙ product_front d v
+    product_of_front : (d : ℕ) (v : List ℕ) → d ≤ length places → product_words m (length (take d places)) (take d places) columns stride (take d v) ≡ product_words m d places columns stride v
+    product_of_front d v l = ap (λ n. product_words m n (take d places) columns stride (take d v)) (length-take-le d places l) ∙ product_front d v
 
     pub product_elems : (d : ℕ) (v xs : List ℕ) → xs ≡ product_words m d places columns stride v → Elems m xs
     product_elems d v xs e = rows_elems v xs d d (ap length e ∙ length-map-range_with_len _ 0 d) (λ j l. ap (λ (zs : List ℕ). get_or zs j 0) e ∙ get_or-map-range_with_len _ 0 d j j 0 l (omega arith))
@@ -103,13 +102,13 @@ module _ (m : FieldMeaning) (laws : FieldLaws m) (out : FieldTotal m) where
 
 -- the product of the first d places and words, written over the first d words
 pub stepped : (m : FieldMeaning) → FieldLaws m → FieldTotal m → (d : ℕ) (places : List Place) (columns : List ℕ) (stride : ℕ) (v xs ys : List ℕ) → Fits d places (length columns) stride (length v) (length xs) → length ys ≡ d
-    → (Elems m (take (d - 0) v) → ys ≡ product_words m (length (take (d - 0) places)) (take (d - 0) places) columns stride (take (d - 0) v))
-    → Elems m (take d v) → Stepped m d places columns stride v (ys ++ drop (d - 0) xs)
+    → (Elems m (take d v) → ys ≡ product_words m (length (take d places)) (take d places) columns stride (take d v))
+    → Elems m (take d v) → Stepped m d places columns stride v (ys ++ drop d xs)
 stepped m laws out d places columns stride v xs ys fit long is els =
-    let product : take d (ys ++ drop (d - 0) xs) ≡ product_words m d places columns stride v =
-    Fronts.front_take ys xs d long ∙ is (subst (λ n. Elems m (take n v)) (sym (sub-zero d)) els) ∙ product_of_front m laws out places columns stride d v fit.enough_places in
+    let whole = ys ++ drop d xs in
+    let product : take d whole ≡ product_words m d places columns stride v = take_at ys (drop d xs) d long ∙ is els ∙ product_of_front m laws out places columns stride d v fit.enough_places in
     record {
       product = product;
-      elements = product_elems m laws out places columns stride d v (take d (ys ++ drop (d - 0) xs)) product;
-      applied = λ laws'. product_applies m laws' out places columns stride d v (ys ++ drop (d - 0) xs) fit.enough_words (Fronts.front_fits ys xs d long) product;
+      elements = product_elems m laws out places columns stride d v (take d whole) product;
+      applied = λ laws'. product_applies m laws' out places columns stride d v whole fit.enough_words (simp length-append (omega arith)) product;
     }

@@ -264,18 +264,3 @@ module _ {K : Type 0} (F : Field K) where
 
       at : (i l : ℕ) → i < n → l < n → u' l (p' i) ≡ u l (p i)
       at i l a b = ap (u' l) (sp i a) ∙ su l (p i) b (omega (arith, T.echelon.pivot_in i a))
-
-  -- before a vector is taken
-  pub none_taken : (d N : ℕ) (v u : ℕ → ℕ → K) (p : ℕ → ℕ) → Taken F d N 0 v u p
-  none_taken d N v u p = record {
-    fresh = λ j a. absurd (omega arith);
-    independent = λ c h j a. absurd (omega arith);
-    echelon = record {
-      pivot_in = λ i a. absurd (omega arith);
-      pivot_one = λ i a. absurd (omega arith);
-      pivot_clear = λ i l a b. absurd (omega arith);
-      coordinates = λ i k a b. absurd (omega arith);
-      reduces = λ l k a b. absurd (omega arith);
-    };
-    blank = λ i l a b c. absurd (omega arith);
-  }

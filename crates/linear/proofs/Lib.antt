@@ -4,7 +4,6 @@ pub mod Lengths
 pub mod Tables
 pub mod Reading
 pub mod Adding
-pub mod Fronts
 pub mod Backwards
 pub mod Columns
 pub mod Turn

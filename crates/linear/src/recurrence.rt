@@ -147,8 +147,8 @@ pub fn recurrence_length<F: Field>(
     Some(shortest(
         field,
         s,
-        &mut c[0..n + 1],
-        &mut b[0..n + 1],
-        &mut spare[0..n + 1],
+        &mut c[..n + 1],
+        &mut b[..n + 1],
+        &mut spare[..n + 1],
     ))
 }

@@ -114,9 +114,9 @@ pub fn step<F: Field>(
         return Err(Misfit);
     }
     let square = Matrix {
-        places: &matrix.places[0..d],
+        places: &matrix.places[..d],
         ..matrix
     };
-    fill_product(field, square, &v[0..d], &mut out[0..d]);
+    fill_product(field, square, &v[..d], &mut out[..d]);
     Ok(())
 }

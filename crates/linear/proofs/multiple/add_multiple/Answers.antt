@@ -15,13 +15,13 @@ loop-i-preserved g c =
     let value = c.add.ensures ∙ ap₂ m.add (ap (λ (zs : List ℕ). get_or zs i 0) c.loop-i.invariant) (c.mul.ensures ∙ ap (m.mul w) (get_or-take c.min-both.result xs i 0 (omega arith))) in
     rw add-one (ap₂ (λ (zs : List ℕ) (z : ℕ). set zs i z) c.loop-i.invariant value ∙ Adding.added_more m w xs c.args.to.now i (omega arith) (omega arith))
 
-pub returns : goal.returns
-returns g c =
+pub returns-clause-sums : goal.returns-clause-sums
+returns-clause-sums g c =
+    let both = length-take-le c.min-both.result c.args.from.now (omega arith) in
+    c.loop-i.invariant ∙ Adding.added_all (g.F.Field.meaning c.args.field.now) c.args.word c.args.from.now c.args.to.now c.loop-i.i (omega arith)
+
+pub returns-clause-elements : goal.returns-clause-elements
+returns-clause-elements g c els =
     let F = c.args.field.now in
     let m = g.F.Field.meaning F in
-    let both = length-take-le c.min-both.result c.args.from.now (omega arith) in
-    let sums = c.loop-i.invariant ∙ Adding.added_all m c.args.word c.args.from.now c.args.to.now c.loop-i.i (omega arith) in
-    record {
-      sums = sums;
-      elements = λ els. subst (Elems m) (sym sums) (Columns.elems_added m (g.met.F.Field.lawful F) (g.met.F.Field.everywhere F) c.args.word c.args.from.now c.args.to.now els);
-    }
+    subst (Elems m) (sym (returns-clause-sums g c)) (Columns.elems_added m (g.met.F.Field.lawful F) (g.met.F.Field.everywhere F) c.args.word c.args.from.now c.args.to.now els)
