@@ -15,7 +15,7 @@ use Rattle.linear.specs.Echelon.{reduced, Depends, Echelon, Taken}
 use Rattle.linear.specs.Elimination.{pitch, rows, held, Wide, Table, Growing, Reduced, FirstNonzero, Relation, Stepped, Eliminated}
 use Rattle.linear.specs.declared.elimination.EliminateFault.{EliminateFault}
 use Rattle.linear.specs.declared.elimination.EliminateFault.TheVariants.{NoRoom, Depends as First}
-use Rattle.linear.proofs.Writes.{other, part, part_length}
+use Rattle.linear.proofs.Writes.{part, part_length}
 use Rattle.linear.proofs.Reading
 use Rattle.linear.proofs.WordLists
 use Rattle.algebra.proofs.Sums
@@ -140,9 +140,9 @@ module _ (m : FieldMeaning) (laws : FieldLaws m) where
       one_kept q o inverse is_one G room last agrees scaled here wide words =
           let own : get_or (set table n scaled) n [] ≡ scaled = get_or-set_same table n scaled [] here in
           one_more q inverse G room agrees (set row (d + n) o) (set table n scaled) (set pivots n place) (length-set row (d + n) o)
-          (get_or-set_same row (d + n) o 0 (omega (arith, L.within)) ∙ is_one) (other row (d + n) o)
+          (get_or-set_same row (d + n) o 0 (omega (arith, L.within)) ∙ is_one) (λ k. get_or-set_other row (d + n) k o 0)
           (ap length own ∙ wide) (λ i a. let ne : i ≢ n = omega arith in rw get_or-set_other)
-          (λ k a. ap (λ (xs : List ℕ). get_or xs k 0) own ∙ words k a) (λ i a. other pivots n place i (omega arith)) (get_or-set_same pivots n place 0 last)
+          (λ k a. ap (λ (xs : List ℕ). get_or xs k 0) own ∙ words k a) (λ i a. get_or-set_other pivots n i place 0 (omega arith)) (get_or-set_same pivots n place 0 last)
 
   module _ (d N n stride : ℕ) (words : List ℕ) (table : List (List ℕ)) (pivots row : List ℕ) (covered : n * stride + d ≤ length words) (narrow : length row ≤ pitch) (wide : Wide n table) (room : n < N) (within : d + N ≤ length row)
       (given : Elems m words) (G : Growing m laws d N n (rows m laws stride words) table pivots)

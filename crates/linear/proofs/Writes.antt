@@ -1,24 +1,15 @@
 -- Lists that a loop writes word by word, and parts that are lent.
---   each        what holds of each word written, by its place, holds after the next is written
---   put         the same where each word written is given
---   other       a word that is not written stays
+--   put         the words before a place are those of a function, and so is the one that is written there
 --   padded      words with one word after them, so often
 --   part        the words lent by a range, with their number and each of them
 use Rattle.std.proofs.Common.{◌≡◌, ℕ, zero, suc, ◌+◌, ◌-◌, ◌<◌, ◌≤◌, ◌≢◌, List, [], ◌∷◌, ◌++◌, length, get_or, take, drop, replicate, set, refl, arith, length-drop, length-take, get_or-drop, get_or-set_other, get_or-take, get_or-set_same, below_more}
 use Rattle.std.proofs.lemmas.List.{get_or-replicate}
 
-module _ (xs : List ℕ) (i w : ℕ) where
-  pub each : (P : ℕ → ℕ → Type 0) → i < length xs → ((k : ℕ) → k < i → P k (get_or xs k 0)) → P i w → (k : ℕ) → k < i + 1 → P k (get_or (set xs i w) k 0)
-  each P l below here =
-      below_more _ _
-      (λ k h. let ne : k ≢ i = omega arith in rw get_or-set_other (below k h))
-      (rw get_or-set_same here)
-
-  pub put : (f : ℕ → ℕ) → i < length xs → ((k : ℕ) → k < i → get_or xs k 0 ≡ f k) → w ≡ f i → (k : ℕ) → k < i + 1 → get_or (set xs i w) k 0 ≡ f k
-  put f = each (λ k x. x ≡ f k)
-
-  pub other : (j : ℕ) → j ≢ i → get_or (set xs i w) j 0 ≡ get_or xs j 0
-  other j ne = rw get_or-set_other
+pub put : (xs : List ℕ) (i w : ℕ) (f : ℕ → ℕ) → i < length xs → ((k : ℕ) → k < i → get_or xs k 0 ≡ f k) → w ≡ f i → (k : ℕ) → k < i + 1 → get_or (set xs i w) k 0 ≡ f k
+put xs i w f l below here =
+    below_more _ _
+    (λ k h. let ne : k ≢ i = omega arith in rw get_or-set_other (below k h))
+    (rw get_or-set_same here)
 
 pub padded : (xs : List ℕ) (n z k : ℕ) → k < length xs + n → get_or (xs ++ replicate n z) k 0 ≡ get_or xs k z
 padded [] n z k h = get_or-replicate n k z 0 (omega arith)

@@ -1,9 +1,8 @@
-use Rattle.std.proofs.Common.{◌≡◌, ◌+◌, ◌<◌, length, set, sym, refl, ap, ◌∙◌, arith, length-set, length-take, get_or-take}
+use Rattle.std.proofs.Common.{◌≡◌, ◌+◌, length, set, sym, refl, ap, ◌∙◌, arith, length-set, length-take, get_or-take}
 use Rattle.std.proofs.lemmas.Result.{err_from_is_err_and}
 use Rattle.linear.specs.Elimination.{pitch}
 use Rattle.linear.specs.declared.elimination.EliminateFault.TheVariants.{Depends as First}
 use Rattle.linear.proofs.Carry.{relation, inverse_there, kept}
-use Rattle.linear.proofs.Writes.{each, part_length}
 use Rattle.linear.proofs.elimination.Echelon.take.Goals as goal
 
 pub returns-in_err-place-clause-stepped : goal.returns-in_err-place-clause-stepped
@@ -23,18 +22,14 @@ returns-in_err-q-clause-stepped g c laws given G =
     absurd (inverse_there _ laws _ _ _ _ _ _ _ _ c.requires.covered (omega arith) (λ i h. c.args.self.now.wide i (omega arith)) c.requires.coordinate (omega arith) given G c.remainder.ensures.left
     c.in_ok-place.place place.0 place.1 (sym c.inverse.ensures ∙ c.in_err-q.ensures.ok_part))
 
-pub returns : goal.returns
-returns g c =
+pub returns-clause-stepped : goal.returns-clause-stepped
+returns-clause-stepped g c laws given G =
     let place = rw c.in_ok-place.ensures.ok_part at c.remainder.ensures.place in
     let width = c.args.family.places + c.args.family.count in
     let row = set c.remainder.new.self.work (c.args.family.places + c.args.n) c.one.result in
     let long : length row ≡ pitch = length-set c.remainder.new.self.work _ _ ∙ c.remainder.ensures.work in
-    record {
-      within = rw c.remainder.ensures.pivots (each c.args.self.now.pivots c.args.n c.in_ok-place.place (λ i j. j < c.args.family.places) (omega arith) c.requires.within (omega (arith, place.0, part_length _ _ _ c.requires.covered)));
-      stepped = λ laws given G.
-          rw (c.remainder.ensures.rows, c.remainder.ensures.pivots)
-          (kept _ laws _ _ _ _ _ _ _ _ c.requires.covered (omega arith) (λ i h. c.args.self.now.wide i (omega arith)) c.requires.coordinate (omega arith) given G c.remainder.ensures.left
-          c.in_ok-place.place place.0 place.1 c.in_ok-q.q _ (sym c.inverse.ensures ∙ c.in_ok-q.ensures.ok_part) c.one.ensures (omega arith)
-          c.scaled.result (omega arith) c.scaled.ensures.width
-          (λ k h. c.scaled.ensures.words k (omega (arith, length-take width row, c.requires.room)) ∙ ap ((g.F.Field.meaning c.args.field.now).mul c.in_ok-q.q) (get_or-take width row k 0 h)));
-    }
+    rw (c.remainder.ensures.rows, c.remainder.ensures.pivots)
+    (kept _ laws _ _ _ _ _ _ _ _ c.requires.covered (omega arith) (λ i h. c.args.self.now.wide i (omega arith)) c.requires.coordinate (omega arith) given G c.remainder.ensures.left
+    c.in_ok-place.place place.0 place.1 c.in_ok-q.q _ (sym c.inverse.ensures ∙ c.in_ok-q.ensures.ok_part) c.one.ensures (omega arith)
+    c.scaled.result (omega arith) c.scaled.ensures.width
+    (λ k h. c.scaled.ensures.words k (omega (arith, length-take width row, c.requires.room)) ∙ ap ((g.F.Field.meaning c.args.field.now).mul c.in_ok-q.q) (get_or-take width row k 0 h)))
