@@ -1,35 +1,41 @@
 -- Answers to questions: by a loop that looks for the first that fails, and of one list of questions after another.
-use Rattle.std.proofs.Common.{◌≡◌, ℕ, ◌+◌, ◌<◌, ◌≤◌, Bool, true, false, Decides, MatchBool, List, [], ◌∷◌, ◌++◌, length, get_or, IsErrAnd, Ok, Err, Result, sym, refl, ap, ◌∙◌, subst, inl, inr, add-one, arith}
+use Rattle.std.proofs.Common.{◌≡◌, ℕ, ◌+◌, ◌<◌, Bool, true, false, Decides, MatchBool, List, [], ◌∷◌, ◌++◌, length, get_or, IsErrAnd, Ok, Err, Result, Some, None, Option, MatchOption, sym, refl, ap, ◌∙◌, subst, inl, inr, add-one, arith}
 use mathlib.Core.Bool.{false≢true}
 use Rattle.std.specs.List.{AllWithin, HoldsAt, range_with_len}
 use Rattle.std.proofs.lemmas.List.FromFn.{get_or-range_with_len, length-range_with_len}
 use Rattle.std.proofs.lemmas.Result.{err_from_is_err_and}
-use Rattle.runs.specs.Question.{Question, single, each, AllYes, Refused}
+use Rattle.runs.specs.Question.{Question, each, AllYes, Refused}
 use Rattle.runs.proofs.Questions.{yes_append}
 use Rattle.polynomials.specs.declared.fault.JobFault.{JobFault}
 use Rattle.polynomials.specs.Faults.{number_of, place_of}
 use Rattle.polynomials.specs.Asked.{Asked}
 
--- one question put to each
+-- one question put to each: the answer to it, by the first that gets a no
 
-module _ (number line c : ℕ) (P : ℕ → Type 0) (i : ℕ) (inv : (j : ℕ) → j < i → P j) where
-  pub each_yes : c ≤ i → AllYes (each number line c P ∷ [])
-  each_yes h = (λ j l. inv j (omega arith), tt)
+abbrev pub FirstNo : ℕ → (ℕ → Type 0) → Option ℕ → Type 0
+FirstNo c P first = MatchOption first ((j : ℕ) → j < c → P j) (λ i. (i < c) × (P i → ⊥) × ((j : ℕ) → j < i → P j))
 
-  pub each_no : i < c → (P i → ⊥) → Refused (each number line c P ∷ []) number line (i + 1)
-  each_no h f = inl ((λ y. f (y i h)), refl, refl, (i, h, add-one i, f, inv))
+-- a fault has this number, and names the place that it is made with
+abbrev pub Named : ℕ → (ℕ → JobFault) → Type 0
+Named number fault = (p : ℕ) → (number_of (fault p) ≡ number) × (place_of (fault p) ≡ p)
 
--- one question put to each number below n, by a search of the range
+-- r is the refusal of the first, by its place counted from 1
+abbrev pub RefusedFirst : (ℕ → JobFault) → Option ℕ → Result (Unit {0}) JobFault → Type 0
+RefusedFirst fault first r = MatchOption first (r ≡ Ok tt) (λ i. r ≡ Err (fault (i + 1)))
 
-module _ (number line n : ℕ) (P : ℕ → Type 0) where
-  pub range_yes : AllWithin P (range_with_len 0 n) 0 (length (range_with_len 0 n)) → AllYes (each number line n P ∷ [])
-  range_yes h = (λ j l. let at : get_or (range_with_len 0 n) j 0 ≡ j = get_or-range_with_len 0 n j 0 l ∙ omega arith in subst P at (h j 0 (omega arith) (omega (arith, l, length-range_with_len 0 n))), tt)
+module _ (number line c : ℕ) (P : ℕ → Type 0) where
+  pub asked_first : (fault : ℕ → JobFault) → Named number fault → (first : Option ℕ) (r : Result (Unit {0}) JobFault) → FirstNo c P first → RefusedFirst fault first r → Asked line (each number line c P ∷ []) r
+  asked_first fault says None r h e = subst (Asked line (each number line c P ∷ [])) (sym e) (h, tt)
+  asked_first fault says (Some i) r h e = subst (Asked line (each number line c P ∷ [])) (sym e) (inl ((λ y. h.1 (y i h.0)), (says (i + 1)).0, refl, (i, h.0, (says (i + 1)).1 ∙ add-one i, h.1, h.2)))
 
-  pub range_no : (No : ℕ → Type 0) → ((j : ℕ) → No j → P j → ⊥) → (i : ℕ) → (i < length (range_with_len 0 n)) × HoldsAt No (range_with_len 0 n) i × AllWithin P (range_with_len 0 n) 0 i → Refused (each number line n P ∷ []) number line (i + 1)
-  range_no No apart i h =
+-- the same where the first is found by a search of the numbers below n
+module _ (n : ℕ) (P No : ℕ → Type 0) (apart : (j : ℕ) → No j → P j → ⊥) where
+  pub first_of_range : (first : Option ℕ) → MatchOption first (AllWithin P (range_with_len 0 n) 0 (length (range_with_len 0 n))) (λ i. (i < length (range_with_len 0 n)) × HoldsAt No (range_with_len 0 n) i × AllWithin P (range_with_len 0 n) 0 i) → FirstNo n P first
+  first_of_range None h = λ j l. let at : get_or (range_with_len 0 n) j 0 ≡ j = get_or-range_with_len 0 n j 0 l ∙ omega arith in subst P at (h j 0 (omega arith) (omega (arith, l, length-range_with_len 0 n)))
+  first_of_range (Some i) h =
       let l : i < n = omega (arith, h.0, length-range_with_len 0 n) in
       let at : (j : ℕ) → j < n → get_or (range_with_len 0 n) j 0 ≡ j = λ j q. get_or-range_with_len 0 n j 0 q ∙ omega arith in
-      each_no number line n P i (λ j q. subst P (at j (omega arith)) (h.2 j 0 (omega arith) q)) l (apart i (subst No (at i l) (h.1 0)))
+      (l, apart i (subst No (at i l) (h.1 0)), λ j q. subst P (at j (omega arith)) (h.2 j 0 (omega arith) q))
 
 pub range_all : (n : ℕ) (r : Bool) (P : ℕ → Type 0) → MatchBool r (AllWithin P (range_with_len 0 n) 0 (length (range_with_len 0 n))) ((k : ℕ) × (k < length (range_with_len 0 n)) × HoldsAt (λ k. P k → ⊥) (range_with_len 0 n) k) → Decides r ((k : ℕ) → k < n → P k)
 range_all n true P h = (λ e. λ j l. let at : get_or (range_with_len 0 n) j 0 ≡ j = get_or-range_with_len 0 n j 0 l ∙ omega arith in subst P at (h j 0 (omega arith) (omega (arith, l, length-range_with_len 0 n))), λ y. refl)
@@ -40,15 +46,6 @@ range_all n false P h = (
       let at : get_or (range_with_len 0 n) h.0 0 ≡ h.0 = get_or-range_with_len 0 n h.0 0 l ∙ omega arith in
       absurd (h.2 0 (subst P (sym at) (y h.0 l))),
 )
-
--- one question
-
-module _ (number line : ℕ) {A : Type 0} where
-  pub single_yes : A → AllYes (single number line A ∷ [])
-  single_yes a = (a, tt)
-
-  pub single_no : (A → ⊥) → Refused (single number line A ∷ []) number line 0
-  single_no f = inl (f, refl, refl, refl)
 
 -- one list after another
 

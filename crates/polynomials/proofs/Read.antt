@@ -1,6 +1,7 @@
 -- Terms as the code reads them, and as a job has them.
-use Rattle.std.proofs.Common.{◌≡◌, ℕ, zero, suc, ◌+◌, ◌-◌, ◌<◌, ◌≤◌, List, [], ◌∷◌, ◌++◌, map, length, get_or, drop, zip, length-drop, Less, sym, refl, ap, ap₂, ◌∙◌, subst, arith, length-append}
-use Rattle.std.specs.List.{AllWithin, HoldsAt}
+use Rattle.std.proofs.Common.{◌≡◌, ℕ, zero, suc, ◌+◌, ◌-◌, ◌^◌, ◌<◌, ◌≤◌, List, [], ◌∷◌, ◌++◌, map, length, get_or, drop, zip, length-drop, Less, Some, None, Ok, Err, Option, IfSome, MatchOption, Result, sym, refl, ap, ap₂, ◌∙◌, subst, arith, length-append}
+use Rattle.std.specs.List.{AllWithin, HoldsAt, slice_get}
+use Rattle.std.specs.Option.{UnwrapsOrElse}
 use lib.ListN.{length-map}
 use Rattle.std.proofs.lemmas.List.{get_or-map, append_assoc}
 use Rattle.std.proofs.lemmas.Grind.{get_or_after_one}
@@ -8,15 +9,19 @@ use Rattle.std.proofs.lemmas.Slice.Zip.{length-zip, get_or-zip}
 use Rattle.order.specs.declared.monomial.Monomial.{Monomial}
 use Rattle.order.specs.Monomials.{one}
 use Rattle.order.specs.Laws.{Comparison}
-use Rattle.runs.specs.Question.{each, AllYes, Refused}
+use Rattle.runs.specs.Question.{each}
 use Rattle.runs.specs.Job as job
 use Rattle.runs.specs.Job.{coefficient_at, monomial_at}
 use Rattle.runs.specs.Enter.{Falls}
 use Rattle.staircase.specs.declared.rules.Term.{Term}
 use Rattle.polynomials.specs.declared.store.Polynomials.{Polynomials}
 use Rattle.polynomials.specs.Held.{terms_of, held}
+use Rattle.polynomials.specs.declared.fault.JobFault.{JobFault}
+use Rattle.polynomials.specs.declared.fault.JobFault.TheVariants.{NotFalling}
+use Rattle.polynomials.specs.Asked.{Asked}
+use Rattle.polynomials.specs.TermQuestions.{falling_ask}
 use Rattle.polynomials.specs.Leads.{lead_of, leads_of}
-use Rattle.polynomials.proofs.Answering.{each_yes, each_no}
+use Rattle.polynomials.proofs.Answering.{FirstNo, Named, RefusedFirst, asked_first}
 use Rattle.polynomials.proofs.Stored.{length_terms, few_held}
 
 module _ (ts : List Term) (i : ℕ) (h : i < length ts) (d : Term) where
@@ -34,26 +39,20 @@ abbrev pub no_term : Term
 no_term = record { coefficient = 0; monomial = one }
 
 -- a question put to each term as a job has it, asked of the terms that the code reads
-
 module _ (number line : ℕ) (ts : List Term) {B : Type 0} (at : ℕ → B) (read : Term → B) (same : (i : ℕ) → i < length ts → at i ≡ read (get_or ts i no_term)) (P : B → Type 0) where
-  pub terms_yes : ((j : ℕ) → j < length ts → P (read (get_or ts j no_term))) → AllYes (each number line (length (terms_of ts)) (λ i. P (at i)) ∷ [])
-  terms_yes h = each_yes number line (length (terms_of ts)) (λ i. P (at i)) (length ts) (λ j l. subst P (sym (same j l)) (h j l)) (omega (arith, length_terms ts))
+  first_of_terms : (first : Option ℕ) → FirstNo (length ts) (λ j. P (read (get_or ts j no_term))) first → FirstNo (length (terms_of ts)) (λ i. P (at i)) first
+  first_of_terms None h = λ j l. let q : j < length ts = omega (arith, l, length_terms ts) in subst P (sym (same j q)) (h j q)
+  first_of_terms (Some i) h = (omega (arith, h.0, length_terms ts), (λ y. h.1 (subst P (same i h.0) y)), λ j q. subst P (sym (same j (omega (arith, h.0, q)))) (h.2 j q))
 
-  pub terms_no : (i : ℕ) → i < length ts → (P (read (get_or ts i no_term)) → ⊥) → ((j : ℕ) → j < i → P (read (get_or ts j no_term))) → Refused (each number line (length (terms_of ts)) (λ i. P (at i)) ∷ []) number line (i + 1)
-  terms_no i l f h = each_no number line (length (terms_of ts)) (λ i. P (at i)) i (λ j q. subst P (sym (same j (omega arith))) (h j q)) (omega (arith, l, length_terms ts)) (λ y. f (subst P (same i l) y))
+  terms_asked : (fault : ℕ → JobFault) → Named number fault → (first : Option ℕ) (r : Result (Unit {0}) JobFault) → FirstNo (length ts) (λ j. P (read (get_or ts j no_term))) first → RefusedFirst fault first r → Asked line (each number line (length (terms_of ts)) (λ i. P (at i)) ∷ []) r
+  terms_asked fault says first r h e = asked_first number line (length (terms_of ts)) (λ i. P (at i)) fault says first r (first_of_terms first h) e
 
 module _ (number line : ℕ) (ts : List Term) where
-  pub coefficients_yes : (P : ℕ → Type 0) → ((j : ℕ) → j < length ts → P (get_or ts j no_term).coefficient) → AllYes (each number line (length (terms_of ts)) (λ i. P (coefficient_at (terms_of ts) i)) ∷ [])
-  coefficients_yes = terms_yes number line ts (coefficient_at (terms_of ts)) (λ t. t.coefficient) (λ i l. coefficient_read ts i l no_term)
+  pub coefficients_asked : (P : ℕ → Type 0) (fault : ℕ → JobFault) → Named number fault → (first : Option ℕ) (r : Result (Unit {0}) JobFault) → FirstNo (length ts) (λ j. P (get_or ts j no_term).coefficient) first → RefusedFirst fault first r → Asked line (each number line (length (terms_of ts)) (λ i. P (coefficient_at (terms_of ts) i)) ∷ []) r
+  coefficients_asked = terms_asked number line ts (coefficient_at (terms_of ts)) (λ t. t.coefficient) (λ i l. coefficient_read ts i l no_term)
 
-  pub coefficients_no : (P : ℕ → Type 0) (i : ℕ) → i < length ts → (P (get_or ts i no_term).coefficient → ⊥) → ((j : ℕ) → j < i → P (get_or ts j no_term).coefficient) → Refused (each number line (length (terms_of ts)) (λ i. P (coefficient_at (terms_of ts) i)) ∷ []) number line (i + 1)
-  coefficients_no = terms_no number line ts (coefficient_at (terms_of ts)) (λ t. t.coefficient) (λ i l. coefficient_read ts i l no_term)
-
-  pub monomials_yes : (P : Monomial → Type 0) → ((j : ℕ) → j < length ts → P (get_or ts j no_term).monomial) → AllYes (each number line (length (terms_of ts)) (λ i. P (monomial_at (terms_of ts) i)) ∷ [])
-  monomials_yes = terms_yes number line ts (monomial_at (terms_of ts)) (λ t. t.monomial) (λ i l. monomial_read ts i l no_term)
-
-  pub monomials_no : (P : Monomial → Type 0) (i : ℕ) → i < length ts → (P (get_or ts i no_term).monomial → ⊥) → ((j : ℕ) → j < i → P (get_or ts j no_term).monomial) → Refused (each number line (length (terms_of ts)) (λ i. P (monomial_at (terms_of ts) i)) ∷ []) number line (i + 1)
-  monomials_no = terms_no number line ts (monomial_at (terms_of ts)) (λ t. t.monomial) (λ i l. monomial_read ts i l no_term)
+  pub monomials_asked : (P : Monomial → Type 0) (fault : ℕ → JobFault) → Named number fault → (first : Option ℕ) (r : Result (Unit {0}) JobFault) → FirstNo (length ts) (λ j. P (get_or ts j no_term).monomial) first → RefusedFirst fault first r → Asked line (each number line (length (terms_of ts)) (λ i. P (monomial_at (terms_of ts) i)) ∷ []) r
+  monomials_asked = terms_asked number line ts (monomial_at (terms_of ts)) (λ t. t.monomial) (λ i l. monomial_read ts i l no_term)
 
 -- a term and the next, as the code reads them side by side
 
@@ -73,16 +72,29 @@ module _ (ts : List Term) where
   read_pair : (cmp : Comparison) (i : ℕ) → suc i < length ts → cmp (monomial_at (terms_of ts) (suc i)) (monomial_at (terms_of ts) i) ≡ cmp (get_or ts (suc i) no_term).monomial (get_or ts i no_term).monomial
   read_pair cmp i l = ap₂ cmp (monomial_read ts (suc i) l no_term) (monomial_read ts i (omega arith) no_term)
 
-  pub falls_at : (cmp : Comparison) (c : ℕ) → c ≤ length pairs → AllWithin (Falling cmp) (zip ts (drop 1 ts)) 0 c → (j : ℕ) → j < c + 1 → Falls cmp (terms_of ts) j
+  falls_at : (cmp : Comparison) (c : ℕ) → c ≤ length pairs → AllWithin (Falling cmp) (zip ts (drop 1 ts)) 0 c → (j : ℕ) → j < c + 1 → Falls cmp (terms_of ts) j
   falls_at cmp c le h zero l = tt
   falls_at cmp c le h (suc i) l = let q : suc i < length ts = omega (arith, length_pairs) in read_pair cmp i q ∙ subst (Falling cmp) (pair_at i q) (h i (no_term, no_term) (omega arith) (omega arith))
 
-  pub rises_at : (cmp : Comparison) (i : ℕ) → i < length (zip ts (drop 1 ts)) → HoldsAt (λ p. Falling cmp p → ⊥) (zip ts (drop 1 ts)) i → Falls cmp (terms_of ts) (suc i) → ⊥
+  rises_at : (cmp : Comparison) (i : ℕ) → i < length (zip ts (drop 1 ts)) → HoldsAt (λ p. Falling cmp p → ⊥) (zip ts (drop 1 ts)) i → Falls cmp (terms_of ts) (suc i) → ⊥
   rises_at cmp i l h y = let q : suc i < length ts = omega (arith, length_pairs) in h (no_term, no_term) (subst (Falling cmp) (sym (pair_at i q)) (sym (read_pair cmp i q) ∙ y))
 
-pub lead_read : (ts : List Term) → 0 < length ts → lead_of (terms_of ts) ≡ (get_or ts 0 no_term).monomial
-lead_read [] h = absurd (omega arith)
-lead_read (t ∷ ts) h = refl
+  pub falling_asked : (cmp : Comparison) (line : ℕ) (first : Option ℕ) (r : Result (Unit {0}) JobFault)
+      → MatchOption first (AllWithin (Falling cmp) (zip ts (drop 1 ts)) 0 (length (zip ts (drop 1 ts)))) (λ i. (i < length (zip ts (drop 1 ts))) × HoldsAt (λ p. Falling cmp p → ⊥) (zip ts (drop 1 ts)) i × AllWithin (Falling cmp) (zip ts (drop 1 ts)) 0 i)
+      → MatchOption first (r ≡ Ok tt) (λ i. r ≡ Err (NotFalling (i + 2))) → Asked line (falling_ask cmp line (terms_of ts) ∷ []) r
+  falling_asked cmp line None r h e = asked_first 11 line (length (terms_of ts)) (Falls cmp (terms_of ts)) NotFalling (λ p. (refl, refl)) None r (λ j l. falls_at cmp (length pairs) (omega arith) h j (omega (arith, l, length_pairs, length_terms ts))) e
+  falling_asked cmp line (Some i) r h e =
+      asked_first 11 line (length (terms_of ts)) (Falls cmp (terms_of ts)) NotFalling (λ p. (refl, refl)) (Some (suc i)) r
+      (omega (arith, h.0, length_pairs, length_terms ts), rises_at cmp i h.0 h.1, λ j l. falls_at cmp i (omega (arith, h.0)) h.2 j (omega arith))
+      (e ∙ ap (λ (p : ℕ). Err (NotFalling p)) (omega arith))
+
+pub first_read : (ts : List Term) (o : Option Term) (t : Term) (IsDefault : Term → Type 0) → o ≡ slice_get ts 0 → UnwrapsOrElse o IsDefault t → ((u : Term) → IsDefault u → u.monomial ≡ one) → t.monomial ≡ monomial_at (terms_of ts) 0
+first_read [] o t D e h d = d t (subst (λ (x : Option Term). UnwrapsOrElse x D t) e h)
+first_read (x ∷ ts) o t D e h d = ap (λ (u : Term). u.monomial) (subst (λ (y : Option Term). UnwrapsOrElse y D t) e h)
+
+pub lead_first : (p : List job.Term) → monomial_at p 0 ≡ lead_of p
+lead_first [] = refl
+lead_first (t ∷ p) = refl
 
 -- polynomials by their places
 
@@ -91,8 +103,16 @@ held_at [] i = refl
 held_at (e ∷ es) zero = refl
 held_at (e ∷ es) (suc i) = held_at es i
 
-pub read_held : (es : List (List Term)) (i : ℕ) (ts : List Term) → ts ≡ get_or es i [] → terms_of ts ≡ get_or (map terms_of es) i []
-read_held es i ts e = ap terms_of e ∙ sym (held_at es i)
+-- the first polynomial that gets a no, as the code goes over them, and as a job has them
+module _ (es : List (List Term)) (P : List job.Term → Type 0) where
+  pub first_of_entries : (first : Option ℕ) → MatchOption first (AllWithin (λ ts. P (terms_of ts)) es 0 (length es)) (λ i. (i < length es) × HoldsAt (λ ts. P (terms_of ts) → ⊥) es i × AllWithin (λ ts. P (terms_of ts)) es 0 i) → FirstNo (length (map terms_of es)) (λ i. P (get_or (map terms_of es) i [])) first
+  first_of_entries None h = λ j l. subst P (sym (held_at es j)) (h j [] (omega arith) (omega (arith, l, length-map es terms_of)))
+  first_of_entries (Some i) h = (omega (arith, h.0, length-map es terms_of), (λ y. h.1 [] (subst P (held_at es i) y)), λ j l. subst P (sym (held_at es j)) (h.2 j [] (omega arith) l))
+
+-- a place found in a short list has a number after it
+pub few_found : (n : ℕ) (first : Option ℕ) → n ≤ 48 → IfSome first (λ i. i < n) → IfSome first (λ i. i + 1 < 2 ^ 64)
+few_found n None l h = tt
+few_found n (Some i) l h = omega (arith, l, h)
 
 -- the leading monomials of those that are left follow those of the polynomials before
 

@@ -89,9 +89,15 @@ module _ (ends : List ℕ) (xs ts : List Term) (up : (i : ℕ) → i < length en
 -- of a store
 
 module _ (s : Polynomials) where
-  pub count_is : length (held s) ≡ length s.ends.items
+  entries_are : length (entries s) ≡ length s.ends.items
   unfolding entries
-  count_is = length-map (entries s) terms_of ∙ length_build (length s.ends.items) (λ i. part s.terms.items (get_or (0 ∷ s.ends.items) i 0) (get_or s.ends.items i 0))
+  entries_are = length_build (length s.ends.items) (λ i. part s.terms.items (get_or (0 ∷ s.ends.items) i 0) (get_or s.ends.items i 0))
+
+  pub few_entries : length (entries s) ≤ 48
+  few_entries = omega (arith, entries_are, s.few)
+
+  pub count_is : length (held s) ≡ length s.ends.items
+  count_is = length-map (entries s) terms_of ∙ entries_are
 
   pub terms_held_is : terms_held (held s) ≡ length s.terms.items
   unfolding entries
@@ -120,9 +126,3 @@ held_more s t ts e f =
     ap₂ (λ (es : List ℕ) (xs : List Term). map terms_of (build (length es) (λ i. part xs (get_or (0 ∷ es) i 0) (get_or es i 0)))) f e
     ∙ ap (map terms_of) (entries_more s.ends.items s.terms.items ts s.rising s.full)
     ∙ map-append terms_of (entries s) (ts ∷ [])
-
--- where a polynomial begins
-
-pub start_read : (ends : List ℕ) (i : ℕ) → 0 < i → get_or ends (i - 1) 0 ≡ get_or (0 ∷ ends) i 0
-start_read ends zero l = absurd (omega arith)
-start_read ends (suc i) l = ap (λ (j : ℕ). get_or ends j 0) (omega arith)

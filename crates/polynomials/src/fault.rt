@@ -1,6 +1,6 @@
 // What a job refuses. Number, layer and place of each case are defined in specs/Faults.antt; a place
 // counts from 1.
-ghost use Rattle.std.specs.Prelude.{◌≡◌};
+ghost use Rattle.std.specs.Prelude.{◌≡◌, ◌+◌, ◌<◌, ◌^◌, Ok, IfSome, MatchOption, IsErrAnd};
 ghost use Rattle.polynomials.specs.declared.fault.JobFault.TheVariants.{ManyStairs, NotClosed};
 
 use linear::step::Misfit;
@@ -62,4 +62,16 @@ impl From<TooMany> for JobFault {
     fn from(_many: TooMany) -> JobFault {
         JobFault::ManyStairs
     }
+}
+
+// The refusal of the first that fails, where one does, by its place: `first` counts from 0.
+pub(crate) fn refuse_first<F: FnOnce(usize) -> JobFault>(
+    first: Option<usize>,
+    fault: F,
+) -> Result<(), JobFault>
+    requires counted { IfSome first (λ i. i + 1 < 2 ^ 64) }
+    requires callable { IfSome first (λ i. F.pre fault (i + 1)) }
+    ensures { MatchOption first (result ≡ Ok tt) (λ i. IsErrAnd result (F.post fault (i + 1))) }
+{
+    first.map_or(Ok(()), |i| Err(fault(i + 1)))
 }

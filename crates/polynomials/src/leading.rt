@@ -1,6 +1,6 @@
 // The questions of Close about the leading monomials and the later terms of the polynomials held.
 // Only reads.
-ghost use Rattle.std.specs.Prelude.{◌≡◌, ℕ, ◌≤◌, List, [], ◌∷◌, map, Decides, slice_index_or};
+ghost use Rattle.std.specs.Prelude.{◌≡◌, ℕ, ◌≤◌, List, [], ◌∷◌, map, Decides};
 ghost use Rattle.field.specs.Meaning.{FieldMeaning, FieldLaws};
 ghost use Rattle.order.specs.Monomials as def;
 ghost use Rattle.order.specs.Laws.{Comparison};
@@ -12,32 +12,21 @@ ghost use Rattle.runs.specs.Enter.{Enters};
 ghost use Rattle.runs.specs.Generators.{generators};
 ghost use Rattle.polynomials.specs.Held.{held, terms_of};
 ghost use Rattle.polynomials.specs.Asked.{Asked};
-ghost use Rattle.polynomials.specs.Leads.{lead_of, leads_of, lead_asks, inside_ask, not_one_ask, powers_ask, Apart, apart_ask, Stands, RestStands};
+ghost use Rattle.polynomials.specs.Leads.{leads_of, lead_asks, inside_ask, not_one_ask, powers_ask, Apart, apart_ask, Stands, RestStands};
 
+use crate::fault::refuse_first;
+use crate::questions::first_term;
 use crate::{JobFault, Polynomials};
 use arrayvec::ArrayVec;
 use order::Monomial;
 use staircase::Term;
 use staircase::search::place_of;
 
-// The monomial of the first term, 1 where there is none.
-fn first_monomial(terms: &[Term]) -> Monomial
-    ensures { result ≡ lead_of (terms_of terms.now) }
-{
-    match terms {
-        [] => Monomial::one(),
-        [first, ..] => first.monomial,
-    }
-}
-
 // Whether none of `leads` is 1.
 fn ask_not_one(leads: &[Monomial]) -> Result<(), JobFault>
     ensures { Asked 0 (not_one_ask leads.now ∷ []) result }
 {
-    match place_of(leads, Monomial::one()) {
-        Some(i) => Err(JobFault::LedByOne(i + 1)),
-        None => Ok(()),
-    }
+    refuse_first(place_of(leads, Monomial::one()), JobFault::LedByOne)
 }
 
 // Whether any of `leads` is a power of the variable of index `k` alone.
@@ -51,10 +40,8 @@ fn any_power(leads: &[Monomial], k: usize) -> bool
 fn ask_powers(n: usize, leads: &[Monomial]) -> Result<(), JobFault>
     ensures { Asked 0 (powers_ask n leads.now ∷ []) result }
 {
-    match (0..n).position(|k| !any_power(leads, k)) {
-        Some(k) => Err(JobFault::NoPower(k + 1)),
-        None => Ok(()),
-    }
+    let first = (0..n).position(|k| !any_power(leads, k));
+    refuse_first(first, JobFault::NoPower)
 }
 
 // Whether none of `leads` divides `m`, but perhaps the one at place `i`.
@@ -71,14 +58,11 @@ fn is_apart(leads: &[Monomial], i: usize, m: Monomial) -> bool
 fn ask_apart(leads: &[Monomial]) -> Result<(), JobFault>
     ensures { Asked 0 (apart_ask leads.now ∷ []) result }
 {
-    match leads
+    let first = leads
         .iter()
         .enumerate()
-        .position(|(i, l)| !is_apart(leads, i, *l))
-    {
-        Some(i) => Err(JobFault::Divided(i + 1)),
-        None => Ok(()),
-    }
+        .position(|(i, l)| !is_apart(leads, i, *l));
+    refuse_first(first, JobFault::Divided)
 }
 
 // The questions put to the leading monomials of polynomials of `n` variables, one after the other.
@@ -111,25 +95,16 @@ impl Polynomials {
     {
         let mut leads = ArrayVec::new();
         for terms in self.iter() {
-            leads.push(first_monomial(terms));
+            leads.push(first_term(terms).monomial);
         }
         leads
-    }
-
-    // Whether each later term of the polynomial at place `i` stands in the staircase.
-    fn is_inside(&self, i: usize, stairs: &[Monomial]) -> bool
-        ensures { Decides result (RestStands stairs.now (slice_index_or (held self.now) i [])) }
-    {
-        rest_stands(stairs, self.polynomial(i))
     }
 
     // Whether each later term of each polynomial stands in the staircase.
     pub fn ask_inside(&self, stairs: &[Monomial]) -> Result<(), JobFault>
         ensures { (m : FieldMeaning) (laws : FieldLaws m) (cmp : Comparison) (n : ℕ) → n ≤ def.variables → Enters m cmp (new n) (held self.now) → stairs.now ≡ map (flat n) (staircase_of n (before_by cmp n) (generators m laws n (held self.now))) → Asked 0 (inside_ask m laws cmp n (held self.now) ∷ []) result }
     {
-        match (0..self.count()).position(|i| !self.is_inside(i, stairs)) {
-            Some(i) => Err(JobFault::Outside(i + 1)),
-            None => Ok(()),
-        }
+        let first = self.iter().position(|terms| !rest_stands(stairs, terms));
+        refuse_first(first, JobFault::Outside)
     }
 }

@@ -2,12 +2,13 @@
 // terms. Each function puts one, and answers the first that gets a no; only reads.
 ghost use Rattle.std.specs.Prelude.{◌≡◌, ℕ, ◌≤◌, [], ◌∷◌, Decides};
 ghost use Rattle.order.specs.Monomials as def;
-ghost use Rattle.runs.specs.Job.{Job, coefficient_at, most_exponent};
+ghost use Rattle.runs.specs.Job.{Job, coefficient_at, monomial_at, most_exponent};
 ghost use Rattle.runs.specs.Enter.{InRange, room_asks, terms_asks};
 ghost use Rattle.polynomials.specs.Held.{terms_of, held};
 ghost use Rattle.polynomials.specs.Asked.{Asked};
 ghost use Rattle.polynomials.specs.TermQuestions.{elements_ask, nonzero_ask, exponents_ask, falling_ask, monic_ask};
 
+use crate::fault::refuse_first;
 use crate::{JobFault, Polynomials};
 use field::Field;
 use order::{Monomial, Order};
@@ -39,23 +40,18 @@ impl Polynomials {
 pub fn ask_elements<F: Field>(field: &F, terms: &[Term]) -> Result<(), JobFault>
     ensures { (line : ℕ) → Asked line (elements_ask (F.Field.meaning field.now) line (terms_of terms.now) ∷ []) result }
 {
-    match terms.iter().position(|t| !field.contains(t.coefficient)) {
-        Some(i) => Err(JobFault::Coefficient(i + 1)),
-        None => Ok(()),
-    }
+    let first = terms.iter().position(|t| !field.contains(t.coefficient));
+    refuse_first(first, JobFault::Coefficient)
 }
 
 // Whether each coefficient is an element other than zero.
 fn ask_nonzero<F: Field>(field: &F, terms: &[Term]) -> Result<(), JobFault>
     ensures { (line : ℕ) → Asked line (nonzero_ask (F.Field.meaning field.now) line (terms_of terms.now) ∷ []) result }
 {
-    match terms
+    let first = terms
         .iter()
-        .position(|t| !field.is_nonzero_element(t.coefficient))
-    {
-        Some(i) => Err(JobFault::Coefficient(i + 1)),
-        None => Ok(()),
-    }
+        .position(|t| !field.is_nonzero_element(t.coefficient));
+    refuse_first(first, JobFault::Coefficient)
 }
 
 // Whether the exponent of the variable of index `k` is at most the largest of a term, and 0 past
@@ -79,10 +75,8 @@ fn in_range(n: usize, m: Monomial) -> bool
 pub fn ask_exponents(n: usize, terms: &[Term]) -> Result<(), JobFault>
     ensures { (line : ℕ) → Asked line (exponents_ask n line (terms_of terms.now) ∷ []) result }
 {
-    match terms.iter().position(|t| !in_range(n, t.monomial)) {
-        Some(i) => Err(JobFault::Exponent(i + 1)),
-        None => Ok(()),
-    }
+    let first = terms.iter().position(|t| !in_range(n, t.monomial));
+    refuse_first(first, JobFault::Exponent)
 }
 
 // Whether each term is less than the one before it.
@@ -90,29 +84,24 @@ fn ask_falling<O: Order>(order: &O, terms: &[Term]) -> Result<(), JobFault>
     ensures { (line : ℕ) → Asked line (falling_ask (O.Order.meaning order.now) line (terms_of terms.now) ∷ []) result }
 {
     let mut neighbours = terms.iter().zip(terms.iter().skip(1));
-    match neighbours.position(|(t, next)| order.compare(next.monomial, t.monomial)
-        != Ordering::Less)
-    {
-        Some(i) => Err(JobFault::NotFalling(i + 2)),
-        None => Ok(()),
-    }
+    let first = neighbours.position(|(t, next)| order.compare(next.monomial, t.monomial)
+        != Ordering::Less);
+    refuse_first(first, |place| JobFault::NotFalling(place + 1))
 }
 
-// The coefficient of the first term; 0 where there is none.
-fn first_coefficient(terms: &[Term]) -> u32
-    ensures { result ≡ coefficient_at (terms_of terms.now) 0 }
+// The first term; 0 times 1 where there is none.
+pub(crate) fn first_term(terms: &[Term]) -> Term
+    ensures coefficient { result.coefficient ≡ coefficient_at (terms_of terms.now) 0 }
+    ensures monomial { result.monomial ≡ monomial_at (terms_of terms.now) 0 }
 {
-    match terms {
-        [] => 0,
-        [first, ..] => first.coefficient,
-    }
+    terms.first().copied().unwrap_or_default()
 }
 
 // Whether the first coefficient is one.
 fn ask_monic<F: Field>(field: &F, terms: &[Term]) -> Result<(), JobFault>
     ensures { (line : ℕ) → Asked line (monic_ask (F.Field.meaning field.now) line (terms_of terms.now) ∷ []) result }
 {
-    if first_coefficient(terms) == field.one() {
+    if first_term(terms).coefficient == field.one() {
         Ok(())
     } else {
         Err(JobFault::NotMonic)

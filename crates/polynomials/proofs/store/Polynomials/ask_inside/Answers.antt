@@ -1,41 +1,26 @@
-use Rattle.std.proofs.Common.{ℕ, ◌+◌, ◌<◌, Some, None, [], ◌∷◌, List, length, get_or, refl, arith, rules, tests}
-use Rattle.std.specs.List.{AllWithin, HoldsAt, range_with_len}
-use Rattle.std.proofs.lemmas.Iterator.{IsFirst-from_position, YieldsList-from_range}
-use Rattle.order.specs.declared.monomial.Monomial.{Monomial}
-use Rattle.runs.specs.Job.{Term}
-use Rattle.polynomials.specs.Held.{held}
+use Rattle.std.proofs.Common.{[], ◌∷◌, length, map, get_or, ap, inl, refl, arith, rules, tests}
+use Rattle.std.proofs.lemmas.Iterator.{IsFirst-from_position}
+use Rattle.std.proofs.lemmas.Iterator.Consumers.{YieldsList-from_first}
+use Rattle.polynomials.specs.Held.{entries, terms_of}
+use Rattle.polynomials.specs.Left.{entries_left}
+use Rattle.polynomials.specs.declared.fault.JobFault.TheVariants.{Outside}
 use Rattle.polynomials.specs.Leads.{RestStands, rests_ask, inside_ask}
-use Rattle.polynomials.proofs.Answering.{range_yes, range_no, yes_same, refused_same}
+use Rattle.polynomials.proofs.Answering.{asked_first, asked_same}
 use Rattle.polynomials.proofs.InsideStairs.{inside_put_same}
+use Rattle.polynomials.proofs.Read.{first_of_entries, few_found}
+use Rattle.polynomials.proofs.Stored.{few_entries}
 use Rattle.polynomials.proofs.store.Polynomials.ask_inside.Goals as goal
-use Rattle.polynomials.proofs.store.Polynomials.ask_inside.Goals.{In-Some, In-None}
 
-abbrev InsideAt : List Monomial → List (List Term) → ℕ → Type 0
-InsideAt l ps j = RestStands l (get_or ps j [])
+pub position-first-requires-clause-fits : goal.position-first-requires-clause-fits
+position-first-requires-clause-fits c = inl (omega (arith, few_entries c.args.self.now, ap length c.iter.ensures))
 
-abbrev OutsideAt : List Monomial → List (List Term) → ℕ → Type 0
-OutsideAt l ps j = InsideAt l ps j → ⊥
+pub refuse_first-requires-clause-counted : goal.refuse_first-requires-clause-counted
+refuse_first-requires-clause-counted c = few_found (length (entries_left c.iter.result)) c.position-first.result (omega (arith, few_entries c.args.self.now, ap length c.iter.ensures)) c.position-first.ensures.bound
 
-first : (c : In-Some) → (c.in-Some.i < length (range_with_len 0 (length (held c.args.self.now)))) × HoldsAt (OutsideAt c.args.stairs.now (held c.args.self.now)) (range_with_len 0 (length (held c.args.self.now))) c.in-Some.i × AllWithin (InsideAt c.args.stairs.now (held c.args.self.now)) (range_with_len 0 (length (held c.args.self.now))) 0 c.in-Some.i
-first c =
-    let ps = held c.args.self.now in
+pub returns : goal.returns
+returns c m laws cmp n fits en e =
+    let es = entries c.args.self.now in
     let l = c.args.stairs.now in
-    IsFirst-from_position _ _ (Some c.in-Some.i) (OutsideAt l ps) (InsideAt l ps) c.in-Some.ensures.ran (YieldsList-from_range 0 c.count.result (length ps) refl (omega (arith, c.count.ensures))) (λ x q k. search (rules, tests)) (λ x q k. search (rules, tests))
-
-all : (c : In-None) → AllWithin (InsideAt c.args.stairs.now (held c.args.self.now)) (range_with_len 0 (length (held c.args.self.now))) 0 (length (range_with_len 0 (length (held c.args.self.now))))
-all c =
-    let ps = held c.args.self.now in
-    let l = c.args.stairs.now in
-    IsFirst-from_position _ _ None (OutsideAt l ps) (InsideAt l ps) c.in-None.ensures.ran (YieldsList-from_range 0 c.count.result (length ps) refl (omega (arith, c.count.ensures))) (λ x q k. search (rules, tests)) (λ x q k. search (rules, tests))
-
-pub returns-in-Some : goal.returns-in-Some
-returns-in-Some c m laws cmp n fits en e =
-    let ps = held c.args.self.now in
-    let l = c.args.stairs.now in
-    refused_same (rests_ask l ps ∷ []) (inside_ask m laws cmp n ps ∷ []) (inside_put_same m laws cmp n ps l fits en e) 17 0 (c.in-Some.i + 1) (range_no 17 0 (length ps) (InsideAt l ps) (OutsideAt l ps) (λ j f y. f y) c.in-Some.i (first c))
-
-pub returns-in-None : goal.returns-in-None
-returns-in-None c m laws cmp n fits en e =
-    let ps = held c.args.self.now in
-    let l = c.args.stairs.now in
-    yes_same (rests_ask l ps ∷ []) (inside_ask m laws cmp n ps ∷ []) (inside_put_same m laws cmp n ps l fits en e) (range_yes 17 0 (length ps) (InsideAt l ps) (all c))
+    let first = IsFirst-from_position c.position-first.new.self _ c.position-first.result (λ ts. RestStands l (terms_of ts) → ⊥) (λ ts. RestStands l (terms_of ts)) c.position-first.ensures.ran (YieldsList-from_first (λ x. x.now) entries_left es c.iter.ensures) (λ x q k. search (rules, tests)) (λ x q k. search (rules, tests)) in
+    asked_same 0 (rests_ask l (map terms_of es) ∷ []) (inside_ask m laws cmp n (map terms_of es) ∷ []) c.refuse_first.result (inside_put_same m laws cmp n (map terms_of es) l fits en e)
+    (asked_first 17 0 (length (map terms_of es)) (λ i. RestStands l (get_or (map terms_of es) i [])) Outside (λ p. (refl, refl)) c.position-first.result c.refuse_first.result (first_of_entries es (RestStands l) c.position-first.result first) (search (rules, tests)))

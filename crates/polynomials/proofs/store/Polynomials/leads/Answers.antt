@@ -3,7 +3,7 @@ use Rattle.order.specs.declared.monomial.Monomial.{Monomial}
 use Rattle.polynomials.specs.Held.{held, terms_of}
 use Rattle.polynomials.specs.Left.{entries_left}
 use Rattle.polynomials.specs.Leads.{leads_of}
-use Rattle.polynomials.proofs.Read.{leads_room, leads_more}
+use Rattle.polynomials.proofs.Read.{lead_first, leads_room, leads_more}
 use Rattle.polynomials.proofs.store.Polynomials.leads.Goals as goal
 
 pub push-requires : goal.push-requires
@@ -12,5 +12,5 @@ push-requires c = omega (arith, leads_room c.args.self.now c.loop-terms.leads.it
 pub loop-terms-preserved : goal.loop-terms-preserved
 loop-terms-preserved c =
     let left = leads_of (map terms_of (entries_left c.next.new.self)) in
-    ap (λ (ls : List Monomial). ls ++ left) (c.push.ensures.items ∙ ap (λ (m : Monomial). c.loop-terms.leads.items ++ m ∷ []) c.first_monomial.ensures)
+    ap (λ (ls : List Monomial). ls ++ left) (c.push.ensures.items ∙ ap (λ (m : Monomial). c.loop-terms.leads.items ++ m ∷ []) (c.first_term.ensures.monomial ∙ lead_first (terms_of c.in-Some.terms.now)))
     ∙ leads_more c.loop-terms.leads.items _ _ c.in-Some.terms.now (leads_of (held c.args.self.now)) c.in-Some.ensures.steps c.loop-terms.invariant
