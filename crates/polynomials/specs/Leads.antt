@@ -8,7 +8,7 @@
 --   Apart ls i t                   none of ls but the one at place i divides t
 --   apart_ask ls                   15
 --   Stands l t                     t is a member of the list l
---   RestStands l p                each term of p but the first has its monomial in the list l
+--   RestStands l p                 each term of p but the first has its monomial in the list l
 --   rests_ask l ps                 17 put to polynomials and a staircase as the code has them
 -- Used by: the functions that put these questions.
 use Rattle.std.specs.Prelude.{◌≡◌, ℕ, ◌<◌, ◌≤◌, true, false, ◌≢◌, List, [], ◌∷◌, map, length, slice_index_or}

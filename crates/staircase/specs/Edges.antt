@@ -2,7 +2,7 @@
 --   Raisable n stairs           records have n variables or more, the monomials of stairs have no others, and their products with each are records
 --   edges_of cmp n stairs       the border of stairs under the order of records cmp
 --   BorderAnswer                what a call answers whose list has room for so many: the border, or that it is longer
---   StairsRaisable             a staircase is raisable, and the border of its records is its border
+--   StairsRaisable              a staircase is raisable, and the border of its records is its border
 --   Outside stairs k i t        t is the product of x_k and the monomial of stairs at place i, and does not stand in stairs
 --   Taken stairs K I k i        place i was taken for x_k: each for the variables below K, and those below I for x_K
 --   Edged stairs K I l          l holds exactly the products outside that were taken

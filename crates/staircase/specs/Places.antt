@@ -1,12 +1,12 @@
 -- The places of the products of a variable and the monomials of a staircase.
 --   numbered                          how many places a list may have, since a place is one byte
---   ProductAt k stairs i t           t is the product of x_k and the monomial of stairs at place i
+--   ProductAt k stairs i t            t is the product of x_k and the monomial of stairs at place i
 --   Placeable k stairs edges room     there is room, both lists have numbered places, and each product is a record that stands in one of them
---   StandsAt stairs edges t p        p is the first place of t in stairs, or in edges where t does not stand in stairs
+--   StandsAt stairs edges t p         p is the first place of t in stairs, or in edges where t does not stand in stairs
 --   Placed k stairs edges out         the place at i in out is that of the product of x_k and the monomial of stairs at place i
---   PlaceOf n S E t p                p is a place of t in S, or in E where t does not stand in S
---   ProductsPlacedIn n k S E        the products of x_k and the monomials of S can be placed in S and E, and the places are theirs
---   ProductsPlaced                   the products of a staircase monomial and a variable can be placed in the staircase and its border,
+--   PlaceOf n S E t p                 p is a place of t in S, or in E where t does not stand in S
+--   ProductsPlacedIn n k S E          the products of x_k and the monomials of S can be placed in S and E, and the places are theirs
+--   ProductsPlaced                    the products of a staircase monomial and a variable can be placed in the staircase and its border,
 --                                     and the places are those of the products
 -- Used by: the call that places the products; the matrices of the variables hold such places.
 use Rattle.std.specs.Prelude.{◌≡◌, ℕ, ◌<◌, ◌≤◌, ◌⊎◌, List, map, length, Some, None, slice_index_or}

@@ -1,7 +1,7 @@
 -- The two rules by which the columns of the border are made, over the code's terms, places and words.
 --   poly_of n terms                       the polynomial of the code's terms
 --   opposite_words m rest stairs          the opposites of the coefficients that the staircase monomials have in the rest of a polynomial
---   OppositesRule                        where a monomial leads a polynomial with that rest, they are its normal form by the first rule
+--   OppositesRule                         where a monomial leads a polynomial with that rest, they are its normal form by the first rule
 -- Used by: the calls that make the columns of the border.
 use Rattle.std.specs.Prelude.{◌≡◌, ℕ, ◌≤◌, List, map, length, slice_index_or}
 use Rattle.std.specs.List.{AllByRecursion}

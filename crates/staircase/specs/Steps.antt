@@ -1,14 +1,14 @@
 -- The second rule over words: a matrix step that reads the columns made so far.
---   OnceEach n S                             no monomial of S stands at two places
---   ColumnsHold m n S E tab columns stride   the columns are those of the table: column b, from word b × stride on, is that of the border
+--   OnceEach n S                              no monomial of S stands at two places
+--   ColumnsHold m n S E tab columns stride    the columns are those of the table: column b, from word b × stride on, is that of the border
 --                                             monomial at place b, and zero where the table has none
---   StepsReplace                             where the columns hold the table and the places are those of the products with x_k, the matrix
+--   StepsReplace                              where the columns hold the table and the places are those of the products with x_k, the matrix
 --                                             step of a form is that form with every staircase monomial m replaced by the form of x_k m
---   ColumnMore                               a column more, written at its place, holds the table with one monomial more
---   ColumnsNone                              columns of zeros hold the empty table
---   StepKnown                                what is known where column `to` comes from column `from` by x_k
+--   ColumnMore                                a column more, written at its place, holds the table with one monomial more
+--   ColumnsNone                               columns of zeros hold the empty table
+--   StepKnown                                 what is known where column `to` comes from column `from` by x_k
 --   Steppable                                 the two columns and the step of d words lie within what is lent
---   ColumnStepped                            then the columns after hold the table with the form by the second rule added
+--   ColumnStepped                             then the columns after hold the table with the form by the second rule added
 -- Used by: whatever makes the columns of the border one after the other.
 use Rattle.std.specs.Prelude.{◌≡◌, ℕ, ◌+◌, ◌*◌, ◌<◌, ◌≤◌, List, [], ◌∷◌, length, take, drop, slice_index, slice_index_or}
 use Rattle.std.proofs.Math.Seq.{paste}
