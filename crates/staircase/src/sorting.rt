@@ -8,19 +8,23 @@ use arrayvec::{ArrayVec, CapacityError};
 use order::{Monomial, Order};
 use std::cmp::Ordering;
 
-// The place of `m` in an increasing list, or the one that it would have.
-// Not `binary_search_by`: tried, and open stayed that the list is in order, as its clause asks.
+// The place of `m` in an increasing list, or the one that it would have: that of the first not less.
+// Not `binary_search_by`: tried, and its place is proved for a list in order alone, while insertion, under any order, knows nothing of its list.
 fn place<O: Order>(order: &O, list: &[Monomial], m: Monomial) -> Result<usize, usize>
     ensures { MatchResult result (λ _. inserted_by (O.Order.meaning order.now) m list.now ≡ list.now) (λ at. (at ≤ length list.now) × (inserted_by (O.Order.meaning order.now) m list.now ≡ insert list.now at m)) }
 {
-    for (i, x) in list.iter().enumerate() {
-        match order.compare(m, *x) {
-            Ordering::Less => return Err(i),
-            Ordering::Equal => return Ok(i),
-            Ordering::Greater => {}
-        }
+    let at = list
+        .iter()
+        .position(|x| order.compare(m, *x) != Ordering::Greater)
+        .unwrap_or(list.len());
+    if list
+        .get(at)
+        .is_some_and(|x| order.compare(m, *x) == Ordering::Equal)
+    {
+        Ok(at)
+    } else {
+        Err(at)
     }
-    Err(list.len())
 }
 
 // Puts `m` into an increasing list: an error where there is no room for it.
