@@ -36,7 +36,7 @@ pub length_build : {A : Type 0} (n : ℕ) (f : ℕ → A) → length (build n f)
 length_build zero f = refl
 length_build (suc n) f = ap suc (length_build n (λ i. f (suc i)))
 
-build_same : {A : Type 0} (n : ℕ) (f g : ℕ → A) → ((i : ℕ) → i < n → f i ≡ g i) → build n f ≡ build n g
+pub build_same : {A : Type 0} (n : ℕ) (f g : ℕ → A) → ((i : ℕ) → i < n → f i ≡ g i) → build n f ≡ build n g
 build_same zero f g h = refl
 build_same {A} (suc n) f g h = ap₂ (λ (x : A) (y : List A). x ∷ y) (h 0 (omega arith)) (build_same n (λ i. f (suc i)) (λ i. g (suc i)) (λ i l. h (suc i) (omega arith)))
 

@@ -1,13 +1,27 @@
 -- The products outside a list, one more at a time.
-use Rattle.std.proofs.Common.{◌≡◌, ℕ, ◌+◌, ◌<◌, ◌⊎◌, List, [], ◌∷◌, length, get_or, Some, refl, ap, subst, inl, inr, add-one, arith}
+use Rattle.std.proofs.Common.{◌≡◌, ℕ, ◌+◌, ◌<◌, ◌⊎◌, Bool, true, false, not, List, [], ◌∷◌, length, get_or, Some, None, Option, MatchOption, is_some, sym, refl, ap, ◌∙◌, subst, inl, inr, add-one, arith}
 use native.Mathlib.Decide.{ℕ_discrete, dec_lt}
 use Rattle.std.specs.List.{ContainsAt as Has}
+use Rattle.std.specs.Bool.{then_some}
+use Rattle.std.proofs.lemmas.Option.{none-some, same_Some}
 use Rattle.std.proofs.ByRecursion.{All-weaker}
 use Rattle.order.specs.declared.monomial.Monomial.{Monomial}
 use Rattle.order.specs.Monomials.{one, raised}
 use Rattle.order.specs.Laws.{Comparison}
+use Rattle.staircase.specs.Search.{FirstPlace}
 use Rattle.staircase.specs.Sorting.{inserted_by, sorted_by}
 use Rattle.staircase.specs.Edges.{Outside, Taken, Edged, Edges}
+use Rattle.staircase.proofs.Walking.{place_some, place_nowhere}
+
+-- a product that is kept where it does not stand in the list
+module _ (l : List Monomial) (k : ℕ) (m : Monomial) where
+  abbrev pub Kept : Option Monomial → Type 0
+  Kept r = MatchOption r ((t : Monomial) → raised k m ≡ Some t → Has l t) (λ t. (raised k m ≡ Some t) × (Has l t → ⊥))
+
+  pub kept_outside : (u r : Option Monomial) → u ≡ raised k m → MatchOption u (r ≡ None) (λ t. (b : Bool) × ((p : Option ℕ) × FirstPlace l t p × (is_some p ≡ not b)) × (r ≡ then_some b t)) → Kept r
+  kept_outside None r e h = subst Kept (sym h) (λ t f. absurd (none-some t (e ∙ f)))
+  kept_outside (Some t) r e (true, (p, q, s), is) = subst Kept (sym is) (sym e, place_nowhere l t p q (sym s))
+  kept_outside (Some t) r e (false, (p, q, s), is) = subst Kept (sym is) (λ u f. subst (Has l) (same_Some t u (e ∙ f)) (place_some l t p q (sym s)))
 
 module _ (cmp : Comparison) (stairs : List Monomial) where
   pub edges_none : Edges cmp stairs 0 0 []

@@ -15,11 +15,7 @@ use order::{Monomial, Order};
 fn outside(k: usize, stairs: &[Monomial], m: Monomial) -> Option<Monomial>
     ensures { MatchOption result ((t : Record) → def.raised k m ≡ Some t → Has stairs.now t) (λ t. (def.raised k m ≡ Some t) × (Has stairs.now t → ⊥)) }
 {
-    let t = m.raised(k)?;
-    match place_of(stairs, t) {
-        Some(_) => None,
-        None => Some(t),
-    }
+    m.raised(k).filter(|t| place_of(stairs, *t).is_none())
 }
 
 // Puts the products of the variable of index `k` that are outside into the increasing `edges`: an

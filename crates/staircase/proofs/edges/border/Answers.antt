@@ -15,9 +15,6 @@ returns-in_err-add_products g c Q =
     let e = c.in_err-add_products.ensures in
     rw p.1 (omega (arith, e.3, border_longer c.args.n c.args.stairs.now Q (g.O.Order.meaning c.args.order.now) (g.met.O.Order.lawful c.args.order.now) c.loop-k.k e.0 e.1 c.loop-k-test.true e.2 e.4))
 
-pub loop-k-preserved : goal.loop-k-preserved
-loop-k-preserved g c = c.in_ok-add_products.ensures
-
 pub returns : goal.returns
 returns g c Q =
     let cmp = g.O.Order.meaning c.args.order.now in

@@ -1,10 +1,6 @@
-use Rattle.std.proofs.Common.{◌≡◌, sym, subst}
-use Rattle.std.specs.List.{ContainsAt as Has}
-use Rattle.staircase.proofs.Walking.{place_has, place_none}
+use Rattle.std.proofs.Common.{rules, tests}
+use Rattle.staircase.proofs.Outside.{kept_outside}
 use Rattle.staircase.proofs.edges.outside.Goals as goal
 
-pub returns-in-Some : goal.returns-in-Some
-returns-in-Some c = λ t e. let up = c.in_ok-t.ensures in let same : c.in_ok-t.t ≡ t = cc in subst (Has c.args.stairs.now) same (place_has _ _ _ c.in-Some.ensures)
-
-pub returns-in-None : goal.returns-in-None
-returns-in-None c = (sym c.in_ok-t.ensures, place_none _ _ c.in-None.ensures)
+pub returns : goal.returns
+returns c = kept_outside c.args.stairs.now c.args.k c.args.m c.raised.result c.filter.result c.raised.ensures (search (rules, tests))

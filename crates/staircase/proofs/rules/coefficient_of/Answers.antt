@@ -1,7 +1,6 @@
-use Rattle.std.proofs.Common.{◌≡◌, ℕ, ◌≢◌, T, List, [], ◌∷◌, sym, ap, ◌∙◌, subst, rules}
-use Rattle.staircase.specs.declared.rules.Term.{Term}
-use Rattle.staircase.proofs.Backwards.{back_none, back_more, back_all}
-use Rattle.staircase.proofs.Opposites.{coefficient_in, term_counts, term_skipped}
+use Rattle.std.proofs.Common.{◌≡◌, ℕ, ◌≢◌, T, [], ◌∷◌, sym, ap, ◌∙◌, subst, rules}
+use Rattle.staircase.proofs.Backwards.{back_none, back_more}
+use Rattle.staircase.proofs.Opposites.{term_counts, term_skipped}
 use Rattle.staircase.proofs.rules.coefficient_of.Goals as goal
 
 pub loop-t-init : goal.loop-t-init
@@ -26,8 +25,3 @@ loop-t-preserved g c =
     let t = c.in-Some.t.now in
     let other : c.in-Some.t.now.monomial ≢ c.args.m = search rules in
     (t ∷ inv.0, back_more c.args.terms.now _ inv.0 _ t inv.1 c.in-Some.ensures.steps, inv.2, term_skipped m (g.met.F.Field.lawful c.args.field.now) (g.met.F.Field.everywhere c.args.field.now) t inv.0 c.args.m c.loop-t.sum other inv.2 inv.3)
-
-pub returns : goal.returns
-returns g c =
-    let inv = c.loop-t.invariant in
-    inv.3 ∙ ap (λ (l : List Term). coefficient_in (g.F.Field.meaning c.args.field.now) l c.args.m) (back_all c.args.terms.now _ inv.0 inv.1 c.in-None.ensures.steps.0)

@@ -3,7 +3,7 @@ use Rattle.std.proofs.lemmas.List.{length-append}
 use Rattle.std.proofs.lemmas.Result.{err_from_is_err_and}
 use Rattle.order.specs.declared.monomial.Monomial.{Monomial}
 use Rattle.staircase.specs.Sorting.{inserted_by, sorted_by}
-use Rattle.staircase.proofs.Backwards.{back_none, back_more, back_all}
+use Rattle.staircase.proofs.Backwards.{back_none, back_more}
 use Rattle.staircase.proofs.Insertion.{sorted_shorter}
 use Rattle.staircase.proofs.sorting.sort.Goals as goal
 
@@ -28,8 +28,3 @@ returns-in_err-insert g c =
     let next = c.next.new.self.iter.rest.now in
     let all = back_more c.args.from.now _ inv.0 next m inv.1 c.in-Some.ensures.steps in
     rw p.1 (omega (arith, c.in_err-insert.ensures.1, ap (λ (l : List Monomial). length (inserted_by cmp m l)) inv.2, sorted_shorter cmp (m ∷ inv.0), ap length all, length-append next (m ∷ inv.0)))
-
-pub returns : goal.returns
-returns g c =
-    let inv = c.loop-m.invariant in
-    inv.2 ∙ ap (sorted_by (g.O.Order.meaning c.args.order.now)) (back_all c.args.from.now _ inv.0 inv.1 c.in-None.ensures.steps.0)

@@ -2,14 +2,8 @@ use Rattle.std.proofs.Common.{[], ◌∷◌, ◌++◌, sym, ◌∙◌, arith}
 use Rattle.std.proofs.lemmas.List.{length_push}
 use Rattle.std.proofs.lemmas.Result.{err_from_is_err_and}
 use Rattle.algebra.specs.Records.{Within}
-use Rattle.staircase.proofs.Walking.{grown_none, grown_skip, grown_offer, good_push, raised_within}
+use Rattle.staircase.proofs.Walking.{grown_offer, good_push, raised_within}
 use Rattle.staircase.proofs.walk.grow.Goals as goal
-
-pub loop-k-init : goal.loop-k-init
-loop-k-init g c = grown_none c.args.n c.args.leads.now _ c.args.m c.requires.good
-
-pub loop-k-preserved-in_default : goal.loop-k-preserved-in_default
-loop-k-preserved-in_default g c = grown_skip c.args.n c.args.leads.now _ c.args.m c.loop-k.k _ c.loop-k.invariant (sym c.in_default.ensures)
 
 pub returns-in_err-offer : goal.returns-in_err-offer
 returns-in_err-offer g c =
