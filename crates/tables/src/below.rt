@@ -26,7 +26,7 @@ fn is_led_by(terms: &[Term], t: Monomial) -> bool
 pub(crate) fn led_by(polynomials: &Polynomials, t: Monomial) -> Option<usize>
     ensures { FirstLed (entries polynomials.now) t result }
 {
-    (0..polynomials.count()).position(|i| is_led_by(polynomials.polynomial(i), t))
+    polynomials.iter().position(|terms| is_led_by(terms, t))
 }
 
 // The quotient of `t` by the variable of that index, where it stands in `edges`.

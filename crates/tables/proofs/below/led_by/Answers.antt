@@ -1,27 +1,30 @@
-use Rattle.std.proofs.Common.{◌≡◌, ℕ, ◌<◌, List, [], length, get_or, Some, None, Option, MatchOption, refl, ◌∙◌, subst, arith, rules, tests}
-use lib.ListN.{length-map}
-use Rattle.std.specs.List.{AllWithin, HoldsAt, range_with_len}
-use Rattle.std.proofs.lemmas.List.FromFn.{get_or-range_with_len, length-range_with_len}
-use Rattle.std.proofs.lemmas.Iterator.{IsFirst-from_position, YieldsList-from_range}
-use Rattle.polynomials.specs.Held.{entries, terms_of}
+use Rattle.std.proofs.Common.{ℕ, ◌<◌, List, [], length, Some, None, Option, MatchOption, ap, inl, arith, rules, tests}
+use Rattle.std.specs.List.{AllWithin, HoldsAt}
+use Rattle.std.proofs.lemmas.Iterator.{IsFirst-from_position}
+use Rattle.std.proofs.lemmas.Iterator.Consumers.{YieldsList-from_first}
+use Rattle.polynomials.specs.Held.{entries}
+use Rattle.polynomials.specs.Left.{entries_left}
+use Rattle.polynomials.proofs.Stored.{few_entries}
 use Rattle.staircase.specs.declared.rules.Term.{Term}
 use Rattle.order.specs.declared.monomial.Monomial.{Monomial}
 use Rattle.tables.specs.Columns.{LedBy, FirstLed}
 use Rattle.tables.proofs.below.led_by.Goals as goal
 
-module _ (ps : List (List Term)) (t : Monomial) where
-  abbrev Led : ℕ → Type 0
-  Led i = LedBy (get_or ps i []) t
+abbrev Led : Monomial → List Term → Type 0
+Led t p = LedBy p t
 
-  first_led : (n : ℕ) → n ≡ length ps → (r : Option ℕ) → MatchOption r (AllWithin (λ i. Led i → ⊥) (range_with_len 0 n) 0 (length (range_with_len 0 n))) (λ i. (i < length (range_with_len 0 n)) × HoldsAt Led (range_with_len 0 n) i × AllWithin (λ i. Led i → ⊥) (range_with_len 0 n) 0 i) → FirstLed ps t r
-  first_led n same None h = λ j l. subst (λ i. Led i → ⊥) (get_or-range_with_len 0 n j 0 (omega arith) ∙ omega arith) (h j 0 (omega arith) (omega (arith, length-range_with_len 0 n)))
-  first_led n same (Some i) h =
-      let l : i < n = omega (arith, h.0, length-range_with_len 0 n) in
-      (omega arith, subst Led (get_or-range_with_len 0 n i 0 l ∙ omega arith) (h.1 0), λ j q. subst (λ i. Led i → ⊥) (get_or-range_with_len 0 n j 0 (omega arith) ∙ omega arith) (h.2 j 0 (omega arith) q))
+abbrev NotLed : Monomial → List Term → Type 0
+NotLed t p = Led t p → ⊥
+
+first_led : (ps : List (List Term)) (t : Monomial) (r : Option ℕ) → MatchOption r (AllWithin (NotLed t) ps 0 (length ps)) (λ i. (i < length ps) × HoldsAt (Led t) ps i × AllWithin (NotLed t) ps 0 i) → FirstLed ps t r
+first_led ps t None h = λ j l. h j [] (omega arith) l
+first_led ps t (Some i) h = (h.0, h.1 [], λ j l. h.2 j [] (omega arith) l)
+
+pub position-requires-clause-fits : goal.position-requires-clause-fits
+position-requires-clause-fits c = inl (omega (arith, few_entries c.args.polynomials.now, ap length c.iter.ensures))
 
 pub returns : goal.returns
 returns c =
-    let s = c.args.polynomials.now in
-    let n = c.count.result in
-    let first = IsFirst-from_position _ _ c.position.result (Led (entries s) c.args.t) (λ i. Led (entries s) c.args.t i → ⊥) c.position.ensures.ran (YieldsList-from_range 0 n n refl (omega arith)) (λ x q k. search (rules, tests)) (λ x q k. search (rules, tests)) in
-    first_led (entries s) c.args.t n (c.count.ensures ∙ length-map (entries s) terms_of) c.position.result first
+    let es = entries c.args.polynomials.now in
+    let t = c.args.t in
+    first_led es t c.position.result (IsFirst-from_position c.position.new.self _ c.position.result (Led t) (NotLed t) c.position.ensures.ran (YieldsList-from_first (λ x. x.now) entries_left es c.iter.ensures) (λ x q k. search (rules, tests)) (λ x q k. search (rules, tests)))
