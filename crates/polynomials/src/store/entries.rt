@@ -24,6 +24,7 @@ impl Polynomials {
     pub const MOST_TERMS: usize = 1024;
 
     // No polynomial.
+    #[tactic(auto, unfolding(crate::specs::Held::entries))]
     pub fn new() -> Polynomials
         ensures { held result ≡ [] }
     {
@@ -33,6 +34,7 @@ impl Polynomials {
         }
     }
 
+    #[tactic(auto, using(crate::proofs::Stored::count_is))]
     pub fn count(&self) -> usize
         ensures { result ≡ length (held self.now) }
     {
@@ -59,6 +61,7 @@ impl Polynomials {
     }
 
     // How many terms the polynomials have together.
+    #[tactic(auto, using(crate::proofs::Stored::terms_held_is))]
     pub fn terms(&self) -> usize
         ensures { result ≡ terms_held (held self.now) }
     {
@@ -81,6 +84,7 @@ impl Polynomials {
     }
 
     // Takes all polynomials out.
+    #[tactic(auto, unfolding(crate::specs::Held::entries))]
     pub fn clear(&mut self)
         ensures { held self.new ≡ [] }
     {
