@@ -1,6 +1,5 @@
 -- Answers to questions: by a loop that looks for the first that fails, and of one list of questions after another.
-use Rattle.std.proofs.Common.{◌≡◌, ℕ, ◌+◌, ◌<◌, Bool, true, false, Decides, MatchBool, List, [], ◌∷◌, ◌++◌, length, get_or, IsErrAnd, Ok, Err, Result, Some, None, Option, MatchOption, sym, refl, ap, ◌∙◌, subst, inl, inr, add-one, arith}
-use mathlib.Core.Bool.{false≢true}
+use Rattle.std.proofs.Common.{◌≡◌, ℕ, ◌+◌, ◌<◌, List, [], ◌∷◌, ◌++◌, length, get_or, IsErrAnd, Ok, Err, Result, Some, None, Option, MatchOption, sym, refl, ap, ◌∙◌, subst, inl, inr, add-one, arith}
 use Rattle.std.specs.List.{AllWithin, HoldsAt, range_with_len}
 use Rattle.std.proofs.lemmas.List.FromFn.{get_or-range_with_len, length-range_with_len}
 use Rattle.std.proofs.lemmas.Result.{err_from_is_err_and}
@@ -36,16 +35,6 @@ module _ (n : ℕ) (P No : ℕ → Type 0) (apart : (j : ℕ) → No j → P j �
       let l : i < n = omega (arith, h.0, length-range_with_len 0 n) in
       let at : (j : ℕ) → j < n → get_or (range_with_len 0 n) j 0 ≡ j = λ j q. get_or-range_with_len 0 n j 0 q ∙ omega arith in
       (l, apart i (subst No (at i l) (h.1 0)), λ j q. subst P (at j (omega arith)) (h.2 j 0 (omega arith) q))
-
-pub range_all : (n : ℕ) (r : Bool) (P : ℕ → Type 0) → MatchBool r (AllWithin P (range_with_len 0 n) 0 (length (range_with_len 0 n))) ((k : ℕ) × (k < length (range_with_len 0 n)) × HoldsAt (λ k. P k → ⊥) (range_with_len 0 n) k) → Decides r ((k : ℕ) → k < n → P k)
-range_all n true P h = (λ e. λ j l. let at : get_or (range_with_len 0 n) j 0 ≡ j = get_or-range_with_len 0 n j 0 l ∙ omega arith in subst P at (h j 0 (omega arith) (omega (arith, l, length-range_with_len 0 n))), λ y. refl)
-range_all n false P h = (
-  λ e. absurd (false≢true e),
-  λ y.
-      let l : h.0 < n = omega (arith, h.1, length-range_with_len 0 n) in
-      let at : get_or (range_with_len 0 n) h.0 0 ≡ h.0 = get_or-range_with_len 0 n h.0 0 l ∙ omega arith in
-      absurd (h.2 0 (subst P (sym at) (y h.0 l))),
-)
 
 -- one list after another
 

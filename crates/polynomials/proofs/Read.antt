@@ -3,7 +3,8 @@ use Rattle.std.proofs.Common.{◌≡◌, ℕ, zero, suc, ◌+◌, ◌-◌, ◌^�
 use Rattle.std.specs.List.{AllWithin, HoldsAt, slice_get}
 use Rattle.std.specs.Option.{UnwrapsOrElse}
 use lib.ListN.{length-map}
-use Rattle.std.proofs.lemmas.List.{get_or-map, append_assoc}
+use Rattle.std.proofs.lemmas.List.{get_or-map}
+use Rattle.std.proofs.Math.ListN.{get_or-map as get_or-map-default}
 use Rattle.std.proofs.lemmas.Grind.{get_or_after_one}
 use Rattle.std.proofs.lemmas.Slice.Zip.{length-zip, get_or-zip}
 use Rattle.order.specs.declared.monomial.Monomial.{Monomial}
@@ -92,22 +93,11 @@ pub first_read : (ts : List Term) (o : Option Term) (t : Term) (IsDefault : Term
 first_read [] o t D e h d = d t (subst (λ (x : Option Term). UnwrapsOrElse x D t) e h)
 first_read (x ∷ ts) o t D e h d = ap (λ (u : Term). u.monomial) (subst (λ (y : Option Term). UnwrapsOrElse y D t) e h)
 
-pub lead_first : (p : List job.Term) → monomial_at p 0 ≡ lead_of p
-lead_first [] = refl
-lead_first (t ∷ p) = refl
-
--- polynomials by their places
-
-pub held_at : (es : List (List Term)) (i : ℕ) → get_or (map terms_of es) i [] ≡ terms_of (get_or es i [])
-held_at [] i = refl
-held_at (e ∷ es) zero = refl
-held_at (e ∷ es) (suc i) = held_at es i
-
 -- the first polynomial that gets a no, as the code goes over them, and as a job has them
 module _ (es : List (List Term)) (P : List job.Term → Type 0) where
   pub first_of_entries : (first : Option ℕ) → MatchOption first (AllWithin (λ ts. P (terms_of ts)) es 0 (length es)) (λ i. (i < length es) × HoldsAt (λ ts. P (terms_of ts) → ⊥) es i × AllWithin (λ ts. P (terms_of ts)) es 0 i) → FirstNo (length (map terms_of es)) (λ i. P (get_or (map terms_of es) i [])) first
-  first_of_entries None h = λ j l. subst P (sym (held_at es j)) (h j [] (omega arith) (omega (arith, l, length-map es terms_of)))
-  first_of_entries (Some i) h = (omega (arith, h.0, length-map es terms_of), (λ y. h.1 [] (subst P (held_at es i) y)), λ j l. subst P (sym (held_at es j)) (h.2 j [] (omega arith) l))
+  first_of_entries None h = λ j l. subst P (sym (get_or-map-default terms_of es j [])) (h j [] (omega arith) (omega (arith, l, length-map es terms_of)))
+  first_of_entries (Some i) h = (omega (arith, h.0, length-map es terms_of), (λ y. h.1 [] (subst P (get_or-map-default terms_of es i []) y)), λ j l. subst P (sym (get_or-map-default terms_of es j [])) (h.2 j [] (omega arith) l))
 
 -- a place found in a short list has a number after it
 pub few_found : (n : ℕ) (first : Option ℕ) → n ≤ 48 → IfSome first (λ i. i < n) → IfSome first (λ i. i + 1 < 2 ^ 64)
@@ -118,6 +108,3 @@ few_found n (Some i) l h = omega (arith, l, h)
 
 pub leads_room : (s : Polynomials) (ls : List Monomial) (es fs : List (List Term)) (p : List Term) → es ≡ p ∷ fs → ls ++ leads_of (map terms_of es) ≡ leads_of (held s) → length ls < 48
 leads_room s ls es fs p e h = omega (arith, few_held s, length-map (held s) lead_of, ap length h, length-append ls (leads_of (map terms_of es)), ap (λ (xs : List (List Term)). length (leads_of (map terms_of xs))) e)
-
-pub leads_more : (ls : List Monomial) (es fs : List (List Term)) (p : List Term) (all : List Monomial) → es ≡ p ∷ fs → ls ++ leads_of (map terms_of es) ≡ all → (ls ++ lead_of (terms_of p) ∷ []) ++ leads_of (map terms_of fs) ≡ all
-leads_more ls es fs p all e h = append_assoc ls (lead_of (terms_of p) ∷ []) (leads_of (map terms_of fs)) ∙ ap (λ (xs : List (List Term)). ls ++ leads_of (map terms_of xs)) (sym e) ∙ h

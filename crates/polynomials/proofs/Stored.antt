@@ -8,6 +8,7 @@ use Rattle.std.proofs.lemmas.Slice.{between_is}
 use Rattle.algebra.specs.Lists.{build}
 use Rattle.runs.specs.Job as job
 use Rattle.runs.specs.Job.{terms_held}
+use Rattle.staircase.proofs.Opposites.{build_same}
 use Rattle.staircase.specs.declared.rules.Term.{Term}
 use Rattle.runs.proofs.Outputs.{length_build}
 use Rattle.polynomials.specs.declared.store.Polynomials.{Polynomials}
@@ -17,10 +18,6 @@ module _ {A : Type 0} where
   pub build_more : (n : ℕ) (f : ℕ → A) → build (suc n) f ≡ build n f ++ (f n ∷ [])
   build_more zero f = refl
   build_more (suc n) f = ap (λ (l : List A). f 0 ∷ l) (build_more n (λ i. f (suc i)))
-
-  pub build_same : (n : ℕ) (f g : ℕ → A) → ((i : ℕ) → i < n → f i ≡ g i) → build n f ≡ build n g
-  build_same zero f g h = refl
-  build_same (suc n) f g h = ap₂ (λ (a : A) (l : List A). a ∷ l) (h 0 (omega arith)) (build_same n (λ i. f (suc i)) (λ i. g (suc i)) (λ i l. h (suc i) (omega arith)))
 
   length_part : (xs : List A) (a b : ℕ) → b ≤ length xs → length (part xs a b) ≡ b - a
   length_part xs a b h = length-take-le (b - a) (drop a xs) (omega (arith, length-drop a xs))
@@ -114,11 +111,7 @@ module _ (s : Polynomials) where
   pub few_terms : terms_held (held s) ≤ 1024
   few_terms = omega (arith, terms_held_is, s.room)
 
--- no polynomial, and one polynomial more
-
-pub held_none : (s : Polynomials) → s.ends.items ≡ [] → held s ≡ []
-unfolding entries
-held_none s e = ap (λ (n : ℕ). map terms_of (build n (λ i. part s.terms.items (get_or (0 ∷ s.ends.items) i 0) (get_or s.ends.items i 0)))) (ap length e)
+-- one polynomial more
 
 pub held_more : (s t : Polynomials) (ts : List Term) → t.terms.items ≡ s.terms.items ++ ts → t.ends.items ≡ s.ends.items ++ length (s.terms.items ++ ts) ∷ [] → held t ≡ held s ++ (terms_of ts ∷ [])
 unfolding entries

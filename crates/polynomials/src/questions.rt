@@ -63,8 +63,8 @@ fn is_allowed(n: usize, m: Monomial, k: usize) -> bool
     m.exponent(k) <= most
 }
 
-// Whether all exponents are so. How large one may be hangs on its variable, so `contains` of one
-// range is no plainer.
+// Whether all exponents are so.
+// By number: how large an exponent may be hangs on its variable, which has no other name.
 fn in_range(n: usize, m: Monomial) -> bool
     ensures { Decides result (InRange n m) }
 {

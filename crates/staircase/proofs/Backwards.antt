@@ -1,6 +1,6 @@
 -- A walk over a list from its end: what is left, and what is done.
-use Rattle.std.proofs.Common.{◌≡◌, List, [], ◌∷◌, ◌++◌, length, sym, ap, ◌∙◌, append_assoc}
-use Rattle.std.proofs.lemmas.List.{append-nil, nil_from_length}
+use Rattle.std.proofs.Common.{◌≡◌, List, [], ◌∷◌, ◌++◌, sym, ap, ◌∙◌, append_assoc}
+use Rattle.std.proofs.lemmas.List.{append-nil}
 
 module _ {A : Type 0} (xs : List A) where
   pub back_none : (rest : List A) → rest ≡ xs → xs ≡ rest ++ []
@@ -8,6 +8,3 @@ module _ {A : Type 0} (xs : List A) where
 
   pub back_more : (rest done next : List A) (x : A) → xs ≡ rest ++ done → rest ≡ next ++ x ∷ [] → xs ≡ next ++ x ∷ done
   back_more rest done next x e is = e ∙ ap (λ (l : List A). l ++ done) is ∙ append_assoc next (x ∷ []) done
-
-  pub back_all : (rest done : List A) → xs ≡ rest ++ done → length rest ≡ 0 → done ≡ xs
-  back_all rest done e none = sym (e ∙ ap (λ (l : List A). l ++ done) (nil_from_length rest none))

@@ -90,9 +90,6 @@ kept l r m b h = subst (λ (y : List Monomial). Has y m) (sym b.1) (has_append_l
 -- ---- the products of one monomial
 
 module _ (n : ℕ) (leads l : List Monomial) (m : Monomial) where
-  pub grown_none : Good n leads l → Grown n leads l m 0 l
-  grown_none g = record { good = g; begins = ([], sym (append-nil l)); holds = λ v t p. absurd (omega arith) }
-
   -- the products by the first k variables and by the next
   next : (k : ℕ) (r : List Monomial) → ((v : ℕ) (t : Monomial) → v < k → raised v m ≡ Some t → Free leads t → Has r t) → ((t : Monomial) → raised k m ≡ Some t → Free leads t → Has r t) → (v : ℕ) (t : Monomial) → v < k + 1 → raised v m ≡ Some t → Free leads t → Has r t
   next k r old new v t p e f = go (ℕ_discrete v k)
@@ -100,9 +97,6 @@ module _ (n : ℕ) (leads l : List Monomial) (m : Monomial) where
       go : Dec (v ≡ k) → Has r t
       go (yes q) = new t (ap (λ (j : ℕ). raised j m) (sym q) ∙ e) f
       go (no q) = old v t (omega arith) e f
-
-  pub grown_skip : (k : ℕ) (r : List Monomial) → Grown n leads l m k r → raised k m ≡ None → Grown n leads l m (k + 1) r
-  grown_skip k r g e = record { good = g.good; begins = g.begins; holds = next k r g.holds (λ t q f. absurd (let z : ◌≡◌ {A = ℕ} 0 1 = cc in omega arith)) }
 
   pub grown_offer : (k : ℕ) (r : List Monomial) (t : Monomial) (s : List Monomial) → Grown n leads l m k r → raised k m ≡ Some t → Within n t → Offered leads r t s → Grown n leads l m (k + 1) s
   grown_offer k r t s g e w o =

@@ -3,9 +3,6 @@ use Rattle.runs.specs.Job.{terms_held}
 use Rattle.polynomials.proofs.Stored.{few_held, few_terms}
 use Rattle.polynomials.proofs.store.Polynomials.ask_room.Goals as goal
 
-pub returns-then-count-eq-MOST : goal.returns-then-count-eq-MOST
-returns-then-count-eq-MOST c line j e = inl ((λ y. omega (arith, c.count.ensures, c.if-count-eq-MOST.true, ap length e, y)), refl, refl, refl)
-
 pub returns-then-count-eq0 : goal.returns-then-count-eq0
 returns-then-count-eq0 c line j e = inr (omega (arith, c.count.ensures, c.if-count-eq-MOST.false, ap length e, few_held c.args.self.now), inl ((λ y. omega (arith, c.if-count-eq0.true, y)), refl, refl, refl))
 
