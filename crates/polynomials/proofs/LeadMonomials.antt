@@ -1,10 +1,11 @@
 -- Leading monomials as the code has them, and as mathematics has them: the questions about the ones are those about the others.
-use Rattle.std.proofs.Common.{◌≡◌, ℕ, zero, suc, ◌<◌, ◌≤◌, Bool, true, false, cond, eqb, ◌≢◌, List, [], ◌∷◌, map, length, get_or, sym, refl, ap, ◌∙◌, subst, ap₂, arith}
+use Rattle.std.proofs.Common.{◌≡◌, ℕ, zero, suc, ◌<◌, ◌≤◌, true, cond, eqb, ◌≢◌, List, [], ◌∷◌, map, length, get_or, sym, refl, ap, ◌∙◌, subst, ap₂, arith}
 use mathlib.Core.Bool.{false≢true}
 use native.Mathlib.Decide.{ℕ_discrete, dec_lt}
 use lib.ListN.{length-map}
 use Rattle.std.specs.List.{AllByRecursion}
 use Rattle.std.proofs.ByRecursion.{All-map, All-get_or, All-weaker}
+use Rattle.std.proofs.lemmas.Bool.{false_from_ne_true}
 use Rattle.std.proofs.lemmas.Bool.Decides.{nat_tests}
 use Rattle.field.specs.Meaning.{FieldMeaning, FieldLaws}
 use Rattle.order.specs.declared.monomial.Monomial.{Monomial}
@@ -121,12 +122,8 @@ module _ (n : ℕ) (fits : n ≤ variables) where
       apart-same : (i : ℕ) → i < length ps → (Apart (leads_of ps) i (get_or (leads_of ps) i one) → Undivided m laws n ps i) × (Undivided m laws n ps i → Apart (leads_of ps) i (get_or (leads_of ps) i one))
       apart-same i l = (
         λ h q r d e. false≢true (sym (h q (omega (arith, r, length-map ps lead_of)) d) ∙ divides-same q i r ∙ e),
-        λ h q r d. not_so _ (λ e. let s : q < length ps = omega (arith, r, length-map ps lead_of) in h q s d (sym (divides-same q i s) ∙ e)),
+        λ h q r d. false_from_ne_true _ (λ e. let s : q < length ps = omega (arith, r, length-map ps lead_of) in h q s d (sym (divides-same q i s) ∙ e)),
       )
-        where
-          not_so : (b : Bool) → (b ≡ true → ⊥) → b ≡ false
-          not_so true f = absurd (f refl)
-          not_so false f = refl
 
       pub leads-same : AllSame (not_one_ask (leads_of ps) ∷ powers_ask n (leads_of ps) ∷ apart_ask (leads_of ps) ∷ []) (lead_asks m laws n ps)
       leads-same = (

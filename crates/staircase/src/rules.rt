@@ -75,7 +75,7 @@ fn column_start(c: usize, d: usize, room: usize, stride: usize) -> Option<usize>
 // The column at place `to` by the second rule: the matrix of a variable, whose products stand at
 // `places`, times the column at place `from`. `out` is room to work in; an error, and no column is
 // written, where something does not fit.
-// `d` beside the lists, as in `step`; no `Matrix`, since the columns are written too.
+// `d` beside the lists, as in `step`; no `Matrix`, which lends its columns to be read, as these are written.
 pub fn next_column<F: Field>(
     field: &F,
     d: usize,

@@ -9,7 +9,7 @@ use order::{Monomial, Order};
 use std::cmp::Ordering;
 
 // The place of `m` in an increasing list, or the one that it would have: that of the first not less.
-// Not `binary_search_by`: tried, and its place is proved for a list in order alone, while insertion, under any order, knows nothing of its list.
+// Not `binary_search_by`: tried, and open stayed that the list is in order, of which insertion knows nothing.
 fn place<O: Order>(order: &O, list: &[Monomial], m: Monomial) -> Result<usize, usize>
     ensures { MatchResult result (λ _. inserted_by (O.Order.meaning order.now) m list.now ≡ list.now) (λ at. (at ≤ length list.now) × (inserted_by (O.Order.meaning order.now) m list.now ≡ insert list.now at m)) }
 {
