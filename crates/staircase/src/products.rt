@@ -43,7 +43,7 @@ pub fn places(
     if out.len() < stairs.len() || stairs.len() > NUMBERED || edges.len() > NUMBERED {
         return Err(Misfit);
     }
-    // By index: of places written through an adapter of `iter_mut` a proof knows nothing.
+    // By index: of places written through `iter_mut().zip(..)` a proof knows nothing.
     for (i, m) in stairs.iter().enumerate() {
         out[i] = product_place(k, stairs, edges, *m).ok_or(Misfit)?;
     }

@@ -49,7 +49,7 @@ pub fn opposite_column<F: Field>(
     if out.len() < stairs.len() {
         return Err(Misfit);
     }
-    // By index: of words written through an adapter of `iter_mut` a proof knows nothing.
+    // By index: of words written through `iter_mut().zip(..)` a proof knows nothing.
     for (j, m) in stairs.iter().enumerate() {
         out[j] = field.neg(coefficient_of(field, rest, *m));
     }
