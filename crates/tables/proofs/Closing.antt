@@ -1,11 +1,13 @@
 -- Polynomials that got a yes to the questions before the last: what is known where their columns are made, and that places and columns then hold
 -- their multiplication matrices.
-use Rattle.std.proofs.Common.{◌≡◌, ℕ, ◌<◌, ◌≤◌, Bool, true, false, cond, T, List, [], ◌∷◌, map, length, get_or, sym, refl, ap, ◌∙◌, subst, ap₂, arith}
+use Rattle.std.proofs.Common.{◌≡◌, ℕ, ◌<◌, ◌≤◌, Bool, true, false, cond, T, List, [], ◌∷◌, map, length, get_or, Ok, Err, Result, sym, refl, ap, ◌∙◌, subst, ap₂, arith}
 use mathlib.Core.Bool.{false≢true}
 use lib.ListN.{length-map}
 use Rattle.std.specs.List.{AllByRecursion}
+use Rattle.std.specs.Result.{IsOkAnd}
 use Rattle.std.proofs.lemmas.List.{get_or-map}
 use Rattle.std.proofs.ByRecursion.{All-map, All-get_or, All-from_get_or, All-weaker}
+use Rattle.arrayvec.specs.ArrayVec.{ArrayVec}
 use Rattle.field.specs.Meaning.{FieldMeaning, FieldLaws}
 use Rattle.order.specs.declared.monomial.Monomial.{Monomial}
 use Rattle.order.specs.Monomials as record_of
@@ -33,7 +35,7 @@ use Rattle.linear.specs.declared.step.Place.TheVariants.{Stair}
 use Rattle.linear.specs.Step.{Fits, entry}
 use Rattle.staircase.specs.declared.rules.Term as code
 use Rattle.staircase.specs.Stairs.{Leading, stairs_of}
-use Rattle.staircase.specs.Edges.{Raisable, edges_of}
+use Rattle.staircase.specs.Edges.{Raisable, edges_of, BorderAnswer}
 use Rattle.staircase.specs.Places.{PlaceOf, ProductsPlacedIn}
 use Rattle.staircase.specs.Rules.{poly_of}
 use Rattle.staircase.specs.Steps.{ColumnsHold, OnceEach}
@@ -130,6 +132,14 @@ module _ (m : FieldMeaning) (laws : FieldLaws m) (cmp : Comparison) (O : OrderLa
 
   pub edges_few : length E ≤ 192
   edges_few = border_length n before S C.few C.short
+
+  -- what `border` answers is the border
+  pub edges_found : {X : Type 0} (stairs : List Monomial) → stairs ≡ map (flat n) S → (r : Result (ArrayVec Monomial) X) → (Raisable n stairs → BorderAnswer cmp n stairs 192 r) → IsOkAnd r (λ edges. edges.items ≡ map (flat n) E)
+  edges_found stairs is r found = found_of r (subst (λ (s : List Monomial). Raisable n s → BorderAnswer cmp n s 192 r) is found raisable)
+    where
+      found_of : {X : Type 0} (r : Result (ArrayVec Monomial) X) → BorderAnswer cmp n (map (flat n) S) 192 r → IsOkAnd r (λ edges. edges.items ≡ map (flat n) E)
+      found_of (Ok v) a = a ∙ ap (map (flat n)) edges_are
+      found_of (Err e) a = absurd (omega (arith, a, ap length edges_are, edges_few))
 
   placed_in : (k : ℕ) → k < n → ProductsPlacedIn n k S E
   placed_in k kn = subst (λ (s : List (Mono n)). ProductsPlacedIn n k s (border n before s)) same_stairs (products_placed cmp n (leads_of ps) leading k kn)

@@ -1,6 +1,6 @@
 // The agreement of the multiplication matrices: any two of them commute, found column by column. Only
 // reads.
-ghost use Rattle.std.specs.Prelude.{◌<◌, ◌≤◌, T, ◌↔◌, List};
+ghost use Rattle.std.specs.Prelude.{◌<◌, ◌≤◌, T, ◌↔◌, List, IsOkAnd};
 ghost use Rattle.field.specs.Meaning.{FieldLaws};
 ghost use Rattle.order.specs.Monomials.{variables};
 ghost use Rattle.order.specs.Laws.{Comparison};
@@ -10,7 +10,7 @@ ghost use Rattle.algebra.specs.Matrices.{Agree};
 ghost use Rattle.runs.specs.Job.{Term as JobTerm};
 ghost use Rattle.runs.specs.Generators.{generators};
 ghost use Rattle.tables.specs.Holds.{stair_count, Holds};
-ghost use Rattle.tables.specs.Agreeing.{ProductColumn, DecidesCommuteAt, DecidesCommute, DecidesCommuteBefore};
+ghost use Rattle.tables.specs.Agreeing.{StepsFit, ProductColumn, DecidesCommuteAt, DecidesCommute, DecidesCommuteBefore};
 
 use crate::Tables;
 use field::Field;
@@ -38,25 +38,21 @@ impl Tables {
     }
 
     // Whether column `i` of the product of the matrices of x_k and x_l is the same in both orders.
-    fn commute_at<F: Field>(&self, field: &F, k: usize, l: usize, i: usize) -> bool
+    fn commute_at<F: Field>(&self, field: &F, k: usize, l: usize, i: usize) -> Result<bool, Misfit>
         requires { i < stair_count self.now }
-        ensures { DecidesCommuteAt (F.Field.meaning field.now) self.now k l i result }
+        ensures { StepsFit self.now k l → IsOkAnd result (DecidesCommuteAt (F.Field.meaning field.now) self.now k l i) }
     {
         let d = self.size();
-        let Ok(ahead) = self.product_column(field, k, l, i) else {
-            return false;
-        };
-        let Ok(back) = self.product_column(field, l, k, i) else {
-            return false;
-        };
-        ahead[..d] == back[..d]
+        let ahead = self.product_column(field, k, l, i)?;
+        let back = self.product_column(field, l, k, i)?;
+        Ok(ahead[..d] == back[..d])
     }
 
     // Whether the matrices of x_k and x_l commute.
     fn commute<F: Field>(&self, field: &F, k: usize, l: usize) -> bool
         ensures { DecidesCommute (F.Field.meaning field.now) self.now k l result }
     {
-        (0..self.size()).all(|i| self.commute_at(field, k, l, i))
+        (0..self.size()).all(|i| self.commute_at(field, k, l, i).unwrap_or(false))
     }
 
     // Whether the matrix of x_l commutes with that of each variable before it.

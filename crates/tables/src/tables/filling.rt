@@ -27,9 +27,7 @@ impl Tables {
         if n > Monomial::VARIABLES {
             return Err(Misfit);
         }
-        let Ok(edges) = border::<O, 192>(order, n, stairs.as_slice()) else {
-            return Err(Misfit);
-        };
+        let edges = border::<O, 192>(order, n, stairs.as_slice()).map_err(|_many| Misfit)?;
         let places = find_places(n, stairs.as_slice(), edges.as_slice())?;
         let mut columns = [0; 9216];
         let frame = Frame {

@@ -37,9 +37,9 @@ impl Tables {
         ensures { Made (F.Field.meaning field.now) (O.Order.meaning order.now) n (held polynomials.now) result }
     {
         let stairs = ask_stairs(order, n, polynomials)?;
-        let Ok(tables) = Tables::fill(field, order, n, polynomials, stairs) else {
-            return Err(JobFault::Disagree);
-        };
+        let tables = Tables::fill(field, order, n, polynomials, stairs).map_err(
+            |_misfit| JobFault::Disagree,
+        )?;
         if !tables.agree(field, n) {
             return Err(JobFault::Disagree);
         }

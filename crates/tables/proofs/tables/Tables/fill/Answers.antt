@@ -1,26 +1,22 @@
-use Rattle.std.proofs.Common.{ℕ, map, length, sym, ap, ◌∙◌, subst, arith}
+use Rattle.std.proofs.Common.{ℕ, length, sym, ap, ◌∙◌, subst, arith}
 use lib.ListN.{length-map}
 use mathlib.Core.Bool.{false≢true}
 use Rattle.algebra.specs.Records.{flat, before_by}
 use Rattle.algebra.specs.Basis as basis
-use Rattle.staircase.specs.Edges.{Raisable, edges_of}
 use Rattle.runs.specs.Generators.{generators}
 use Rattle.polynomials.specs.Held.{entries, held}
 use Rattle.tables.specs.Filling.{MatricesIn}
+use Rattle.tables.proofs.Answered.{mapped_ok, mapped_err}
 use Rattle.tables.proofs.Closing as closing
 use Rattle.tables.proofs.tables.Tables.fill.Goals as goal
 
-pub returns-in_default : goal.returns-in_default
-returns-in_default g c laws C is =
+pub returns-in_err-edges : goal.returns-in_err-edges
+returns-in_err-edges g c laws C is =
     let m = g.F.Field.meaning c.args.field.now in
     let cmp = g.O.Order.meaning c.args.order.now in
     let O = g.met.O.Order.lawful c.args.order.now in
-    let n = c.args.n in
-    let es = entries c.args.polynomials.now in
-    let given = c.as_slice.ensures.value ∙ is in
-    let longer = c.in_default.ensures (subst (Raisable n) (sym given) (closing.raisable m laws cmp O n es C)) in
-    let same = ap length (ap (edges_of cmp n) given ∙ closing.edges_are m laws cmp O n es C) in
-    absurd (omega (arith, longer, same, closing.edges_few m laws cmp O n es C))
+    let found = closing.edges_found m laws cmp O c.args.n (entries c.args.polynomials.now) C c.as_slice.result.now (c.as_slice.ensures.value ∙ is) c.border.result c.border.ensures in
+    absurd (rw (mapped_err _ c.border.result c.map_err.result c.in_err-edges.field-0.0 c.in_err-edges.was c.map_err.ensures.cases).1 at found)
 
 pub returns-in_err-places : goal.returns-in_err-places
 returns-in_err-places g c laws C is =
@@ -29,8 +25,7 @@ returns-in_err-places g c laws C is =
     let O = g.met.O.Order.lawful c.args.order.now in
     let n = c.args.n in
     let es = entries c.args.polynomials.now in
-    let given = c.as_slice.ensures.value ∙ is in
-    let are = c.in-Ok.ensures (subst (Raisable n) (sym given) (closing.raisable m laws cmp O n es C)) ∙ ap (map (flat n)) (ap (edges_of cmp n) given ∙ closing.edges_are m laws cmp O n es C) in
+    let are = rw (mapped_ok _ c.border.result c.map_err.result c.in_ok-edges.edges c.in_ok-edges.was c.map_err.ensures.cases) at (closing.edges_found m laws cmp O n es C c.as_slice.result.now (c.as_slice.ensures.value ∙ is) c.border.result c.border.ensures) in
     let stairs = c.as_slice-2.result.now in
     let edges = c.as_slice-3.result.now in
     let stairs_is = c.as_slice-2.ensures.value ∙ is in
@@ -47,8 +42,7 @@ returns-in_err-fill_columns g c laws C is =
     let es = entries c.args.polynomials.now in
     let S = basis.stairs n (before_by cmp n) (generators m laws n (held c.args.polynomials.now)) in
     let E = basis.edges n (before_by cmp n) (generators m laws n (held c.args.polynomials.now)) in
-    let given = c.as_slice.ensures.value ∙ is in
-    let are = c.in-Ok.ensures (subst (Raisable n) (sym given) (closing.raisable m laws cmp O n es C)) ∙ ap (map (flat n)) (ap (edges_of cmp n) given ∙ closing.edges_are m laws cmp O n es C) in
+    let are = rw (mapped_ok _ c.border.result c.map_err.result c.in_ok-edges.edges c.in_ok-edges.was c.map_err.ensures.cases) at (closing.edges_found m laws cmp O n es C c.as_slice.result.now (c.as_slice.ensures.value ∙ is) c.border.result c.border.ensures) in
     let stairs = c.as_slice-2.result.now in
     let edges = c.as_slice-3.result.now in
     let stairs_is = c.as_slice-2.ensures.value ∙ is in
@@ -68,8 +62,7 @@ returns g c laws C is =
     let es = entries c.args.polynomials.now in
     let S = basis.stairs n (before_by cmp n) (generators m laws n (held c.args.polynomials.now)) in
     let E = basis.edges n (before_by cmp n) (generators m laws n (held c.args.polynomials.now)) in
-    let given = c.as_slice.ensures.value ∙ is in
-    let are = c.in-Ok.ensures (subst (Raisable n) (sym given) (closing.raisable m laws cmp O n es C)) ∙ ap (map (flat n)) (ap (edges_of cmp n) given ∙ closing.edges_are m laws cmp O n es C) in
+    let are = rw (mapped_ok _ c.border.result c.map_err.result c.in_ok-edges.edges c.in_ok-edges.was c.map_err.ensures.cases) at (closing.edges_found m laws cmp O n es C c.as_slice.result.now (c.as_slice.ensures.value ∙ is) c.border.result c.border.ensures) in
     let stairs = c.as_slice-2.result.now in
     let edges = c.as_slice-3.result.now in
     let stairs_is = c.as_slice-2.ensures.value ∙ is in
