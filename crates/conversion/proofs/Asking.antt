@@ -1,16 +1,34 @@
 -- What the answers to 24 and 25, put to words, say of the powers and the sequence that the words stand for.
 use Rattle.std.proofs.Common.{◌≡◌, ℕ, ◌+◌, ◌*◌, ◌<◌, List, length, Ok, Err, Result, arith}
+use Rattle.std.specs.Result.{IsErrAnd, MatchResult}
+use Rattle.std.proofs.lemmas.Result.{err_from_is_err_and}
 use Rattle.field.specs.Meaning.{FieldMeaning, FieldLaws}
-use Rattle.algebra.specs.Elements.{field_of}
-use Rattle.linear.specs.Elimination.{rows}
+use Rattle.algebra.specs.Elements.{Elem, field_of}
+use Rattle.linear.specs.Elimination.{rows, Eliminated}
+use Rattle.linear.specs.declared.elimination.EliminateFault.{EliminateFault}
+use Rattle.linear.specs.declared.elimination.EliminateFault.TheVariants.{NoRoom, Depends}
 use Rattle.linear.proofs.WordLists.{read_is}
 use Rattle.tables.specs.declared.tables.Tables.{Tables}
 use Rattle.polynomials.specs.declared.fault.JobFault.{JobFault}
+use Rattle.polynomials.specs.declared.fault.JobFault.TheVariants.{NoShape, NotClosed}
 use Rattle.tables.specs.Holds.{stair_count}
 use Rattle.conversion.specs.Powers.{width, unit, power, measure, Vectors}
 use Rattle.conversion.specs.Asked.{ShapeFound, LengthFound}
 use Rattle.conversion.specs.Phases.{Half, Whole, ShapeAsked, RowsAsked}
 use Rattle.conversion.proofs.Along.{independent_along, degree_along}
+
+-- the fault of question 24 that the fault of an elimination is
+abbrev pub no_shape : EliminateFault → JobFault
+no_shape (Depends j) = NoShape j
+no_shape NoRoom = NotClosed
+
+module _ (m : FieldMeaning) (laws : FieldLaws m) where
+  -- of the vectors that were eliminated
+  pub shape_of : {A : Type 0} (d : ℕ) (v : ℕ → ℕ → Elem m) (table : List (List ℕ)) (pivots row : List ℕ) (Q : EliminateFault → JobFault → Type 0) → ((e : EliminateFault) (f : JobFault) → Q e f → f ≡ no_shape e)
+      → (r : Result A EliminateFault) (a : Result A JobFault) → MatchResult r (λ x. a ≡ Ok x) (λ e. IsErrAnd a (Q e)) → Eliminated m laws d d v table pivots row r → ShapeFound m laws d v a
+  shape_of d v table pivots row Q q (Ok y) a is x = rw is x.1.independent
+  shape_of d v table pivots row Q q (Err (Depends j)) a is x = let p = err_from_is_err_and a is in rw p.1 (j, q (Depends j) p.0 p.2, x.0, x.1)
+  shape_of d v table pivots row Q q (Err NoRoom) a is x = absurd x
 
 module _ (m : FieldMeaning) (laws : FieldLaws m) (t : Tables) (k : ℕ) (r : List ℕ) (n : ℕ) where
   -- of the words that hold the powers

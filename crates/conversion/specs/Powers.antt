@@ -1,5 +1,5 @@
 -- Vectors of words, and the powers of the multiplication matrices that tables hold.
---   width                       how many words a vector is lent
+--   width                       how many words a vector has, of which the first count
 --   Stands m d xs f             the first d words of xs are those of the vector f
 --   StandsAt m d a xs f        the d words of xs from word a on are
 --   map_of m laws t k           the matrix of x_k that the tables t hold, at a vector

@@ -12,7 +12,7 @@ use linear::dot::dot;
 use linear::step::Misfit;
 use tables::Tables;
 
-// How many words a vector is lent.
+// How many words a vector has, of which the first count.
 pub(crate) const WIDTH: usize = 48;
 
 // A vector, and room for the next one.

@@ -1,5 +1,5 @@
 // The questions 20 to 25 of Convert, in their order. The last two are put to words that the powers
-// of a multiplication matrix have left, and work in what they are lent.
+// of a multiplication matrix have left, and work in the arrays of a conversion.
 ghost use Rattle.std.specs.Prelude.{◌≡◌, ℕ, suc, ◌+◌, ◌<◌, T, length, Some, None, slice_index};
 ghost use Rattle.field.specs.Meaning.{FieldLaws};
 ghost use Rattle.algebra.specs.Elements.{Elem};
@@ -62,11 +62,12 @@ pub(crate) fn ask_independent<F: Field>(
         places: d,
         count: d,
     };
-    match echelon.eliminate(by.matrices.field, family) {
-        Ok(()) => Ok(()),
-        Err(EliminateFault::Depends(j)) => Err(JobFault::NoShape(j)),
-        Err(EliminateFault::NoRoom) => Err(JobFault::NotClosed),
-    }
+    echelon
+        .eliminate(by.matrices.field, family)
+        .map_err(|fault| match fault {
+            EliminateFault::Depends(j) => JobFault::NoShape(j),
+            EliminateFault::NoRoom => JobFault::NotClosed,
+        })
 }
 
 // 25: whether the least length of a recurrence of the sequence is the size of the staircase; its place
