@@ -6,18 +6,22 @@
 --   unit m laws                 the unit vector of place 0, that of the monomial 1
 --   power m laws t k f j        that matrix put to the vector f j times
 --   measure m laws t k r f j    the sum of r_i times coordinate i of that power
+--   OnlyUnready t n r           r refuses only tables in which a step of the first n variables does not fit
 --   Vectors m laws t k vectors  the words hold the powers of x_k at the unit vector, each a width after the one before, and are all elements
--- Used by: the loops over Krylov vectors, sequences and right-hand sides.
-use Rattle.std.specs.Prelude.{◌≡◌, ℕ, ◌+◌, ◌*◌, ◌<◌, List, slice_index}
+-- Used by: the loops over Krylov vectors, sequences and right-hand sides, and all methods that take steps.
+use Rattle.std.specs.Prelude.{◌≡◌, ℕ, ◌+◌, ◌*◌, ◌<◌, List, Result, OnErr, slice_index}
 use Rattle.field.specs.Meaning.{FieldMeaning, FieldLaws}
 use Rattle.algebra.specs.Vector.{basis, apply, krylov}
 use Rattle.algebra.specs.Elements.{Elem, Elems, field_of, read}
 use Rattle.linear.specs.Hankel.{measured}
-use Rattle.tables.specs.Holds.{stair_count, entry_of}
+use Rattle.tables.specs.Holds.{stair_count, entry_of, Ready}
 use Rattle.tables.specs.declared.tables.Tables.{Tables}
 
 abbrev pub width : ℕ
 width = 48
+
+abbrev pub OnlyUnready : {A E : Type 0} → Tables → ℕ → Result A E → Type 0
+OnlyUnready t n r = OnErr r (Ready t n → ⊥)
 
 abbrev pub StandsAt : (m : FieldMeaning) → ℕ → ℕ → List ℕ → (ℕ → Elem m) → Type 0
 StandsAt m d a xs f = (j : ℕ) → j < d → slice_index xs (a + j) ≡ (f j).0

@@ -1,11 +1,11 @@
 // Powers of a multiplication matrix: a vector that is put through the step of the tables again and
 // again. Of its WIDTH words as many count as the staircase has monomials.
-ghost use Rattle.std.specs.Prelude.{◌≡◌, ℕ, ◌<◌, ◌≤◌, OnOk, OnErr, length};
+ghost use Rattle.std.specs.Prelude.{◌≡◌, ℕ, ◌<◌, ◌≤◌, OnOk, length};
 ghost use Rattle.field.specs.Meaning.{FieldLaws};
 ghost use Rattle.order.specs.Monomials.{variables};
 ghost use Rattle.algebra.specs.Elements.{Elem};
-ghost use Rattle.tables.specs.Holds.{stair_count, Ready};
-ghost use Rattle.conversion.specs.Powers.{width, Stands, map_of, unit, power, measure, Vectors};
+ghost use Rattle.tables.specs.Holds.{stair_count};
+ghost use Rattle.conversion.specs.Powers.{OnlyUnready, width, Stands, map_of, unit, power, measure, Vectors};
 
 use field::Field;
 use linear::dot::dot;
@@ -52,7 +52,7 @@ impl<'a, F: Field> Matrices<'a, F> {
     // Puts the matrix of x_k, counted from 0, to the vector.
     pub(crate) fn advance(&self, k: usize, walk: &mut Walk) -> Result<(), Misfit>
         requires { k < self.now.n }
-        ensures fits { OnErr result (¬ Ready self.now.tables.now self.now.n) }
+        ensures fits { OnlyUnready self.now.tables.now self.now.n result }
         ensures advanced { let m = F.Field.meaning self.now.field.now in let t = self.now.tables.now in OnOk result ((laws : FieldLaws m) (f : ℕ → Elem m) → Stands m (stair_count t) walk.old.vector f → Stands m (stair_count t) walk.new.vector (map_of m laws t k f)) }
     {
         self.tables
@@ -76,7 +76,7 @@ impl<'a, F: Field> Conversion<'a, F> {
     // The words r . v, r . T v, r . T (T v), .. for the matrix T of x_k and the vector v, into all of
     // `out`.
     pub(crate) fn measure(&self, walk: &mut Walk, out: &mut [u32]) -> Result<(), Misfit>
-        ensures fits { OnErr result (¬ Ready self.now.matrices.tables.now self.now.matrices.n) }
+        ensures fits { OnlyUnready self.now.matrices.tables.now self.now.matrices.n result }
         ensures measured { let m = F.Field.meaning self.now.matrices.field.now in let t = self.now.matrices.tables.now in OnOk result ((laws : FieldLaws m) (f : ℕ → Elem m) → Stands m (stair_count t) walk.old.vector f → Stands m (length out.old) out.new (measure m laws t self.now.k self.now.r.now f)) }
     {
         for word in out.iter_mut() {
@@ -95,7 +95,7 @@ impl<'a, F: Field> Conversion<'a, F> {
         vectors: &mut [u32; 2304],
         words: &mut [u32; 96],
     ) -> Result<(), Misfit>
-        ensures fits { OnErr result (¬ Ready self.now.matrices.tables.now self.now.matrices.n) }
+        ensures fits { OnlyUnready self.now.matrices.tables.now self.now.matrices.n result }
         ensures vectors { let m = F.Field.meaning self.now.matrices.field.now in OnOk result ((laws : FieldLaws m) → Vectors m laws self.now.matrices.tables.now self.now.k vectors.new) }
         ensures words { let m = F.Field.meaning self.now.matrices.field.now in let t = self.now.matrices.tables.now in OnOk result ((laws : FieldLaws m) → Stands m (stair_count t) words.new (measure m laws t self.now.k self.now.r.now (unit m laws))) }
         ensures next { let m = F.Field.meaning self.now.matrices.field.now in let t = self.now.matrices.tables.now in OnOk result ((laws : FieldLaws m) → Stands m (stair_count t) walk.new.vector (power m laws t self.now.k (unit m laws) (stair_count t))) }

@@ -1,13 +1,13 @@
 // The rows that Convert writes: the right-hand sides, the table of the sequence, and the row of each
 // variable into its own part of the output.
-ghost use Rattle.std.specs.Prelude.{◌≡◌, ℕ, ◌+◌, ◌-◌, ◌*◌, ◌<◌, ◌≤◌, ◌≢◌, OnOk, OnErr, length, take, drop, slice_index};
+ghost use Rattle.std.specs.Prelude.{◌≡◌, ℕ, ◌+◌, ◌-◌, ◌*◌, ◌<◌, ◌≤◌, ◌≢◌, OnOk, length, take, drop, slice_index};
 ghost use Rattle.field.specs.Meaning.{FieldLaws};
 ghost use Rattle.algebra.specs.Vector.{Independent};
 ghost use Rattle.algebra.specs.Elements.{Elem, field_of};
 ghost use Rattle.linear.specs.Hankel.{hankel};
 ghost use Rattle.linear.specs.Elimination as elimination;
-ghost use Rattle.tables.specs.Holds.{stair_count, Ready};
-ghost use Rattle.conversion.specs.Powers.{width, Stands, StandsAt, map_of, unit, measure};
+ghost use Rattle.tables.specs.Holds.{stair_count};
+ghost use Rattle.conversion.specs.Powers.{OnlyUnready, width, Stands, StandsAt, map_of, unit, measure};
 ghost use Rattle.conversion.specs.Rows.{Row};
 
 use crate::powers::{Conversion, WIDTH, Walk};
@@ -29,7 +29,7 @@ impl<'a, F: Field> Conversion<'a, F> {
     // The words r . T_k^j T_i e, into all of `out`; nothing for x_k itself, whose row needs none.
     fn right_side(&self, i: usize, walk: &mut Walk, out: &mut [u32]) -> Result<(), Misfit>
         requires { i < self.now.matrices.n }
-        ensures fits { OnErr result (¬ Ready self.now.matrices.tables.now self.now.matrices.n) }
+        ensures fits { OnlyUnready self.now.matrices.tables.now self.now.matrices.n result }
         ensures measured { let m = F.Field.meaning self.now.matrices.field.now in let t = self.now.matrices.tables.now in OnOk result (i ≢ self.now.k → (laws : FieldLaws m) → Stands m (length out.old) out.new (measure m laws t self.now.k self.now.r.now (map_of m laws t i (unit m laws)))) }
     {
         if i == self.k {
@@ -42,7 +42,7 @@ impl<'a, F: Field> Conversion<'a, F> {
 
     // Those of each variable, WIDTH words after those of the one before.
     pub(crate) fn right_sides(&self, walk: &mut Walk, sides: &mut [u32; 192]) -> Result<(), Misfit>
-        ensures fits { OnErr result (¬ Ready self.now.matrices.tables.now self.now.matrices.n) }
+        ensures fits { OnlyUnready self.now.matrices.tables.now self.now.matrices.n result }
         ensures measured { let m = F.Field.meaning self.now.matrices.field.now in let t = self.now.matrices.tables.now in OnOk result ((laws : FieldLaws m) (i : ℕ) → i < self.now.matrices.n → i ≢ self.now.k → StandsAt m (stair_count t) (i * width) sides.new (measure m laws t self.now.k self.now.r.now (map_of m laws t i (unit m laws)))) }
     {
         let d = self.matrices.tables.size();

@@ -7,7 +7,7 @@ ghost use Rattle.algebra.specs.Vector.{Independent};
 ghost use Rattle.algebra.specs.Elements.{field_of};
 ghost use Rattle.linear.specs.Hankel.{hankel};
 ghost use Rattle.tables.specs.Holds.{stair_count, Ready};
-ghost use Rattle.conversion.specs.Powers.{unit, measure};
+ghost use Rattle.conversion.specs.Powers.{OnlyUnready, unit, measure};
 ghost use Rattle.conversion.specs.Phases.{Half, Whole, ShapeAsked, RowsAsked, RowsWritten};
 
 use crate::powers::{Conversion, Walk};
@@ -36,7 +36,7 @@ impl<'a, F: Field> Conversion<'a, F> {
     // The second half of the sequence, after the first, of which the vector is the power that comes
     // next.
     fn measure_on(&self, walk: &mut Walk, sequence: &mut [u32; 96]) -> Result<(), Misfit>
-        ensures fits { OnErr result (¬ Ready self.now.matrices.tables.now self.now.matrices.n) }
+        ensures fits { OnlyUnready self.now.matrices.tables.now self.now.matrices.n result }
         ensures measured { let m = F.Field.meaning self.now.matrices.field.now in let t = self.now.matrices.tables.now in OnOk result ((laws : FieldLaws m) → Half m laws t self.now.k self.now.r.now sequence.old walk.old.vector → Whole m laws t self.now.k self.now.r.now sequence.new) }
     {
         let d = self.matrices.tables.size();
