@@ -30,7 +30,7 @@ use Rattle.algebra.proofs.Records as records
 use Rattle.algebra.proofs.Border as borders
 use Rattle.algebra.proofs.Rules as rules
 use Rattle.algebra.proofs.Words.{words_agree}
-use Rattle.linear.specs.declared.step.Place.{Place}
+use Rattle.tables.specs.declared.products.Products.{Products}
 use Rattle.linear.specs.declared.step.Place.TheVariants.{Stair}
 use Rattle.linear.specs.Step.{Fits, entry}
 use Rattle.staircase.specs.declared.rules.Term as code
@@ -49,7 +49,7 @@ use Rattle.runs.proofs.Entered.{Fine, fine_all}
 use Rattle.polynomials.specs.Held.{terms_of}
 use Rattle.polynomials.specs.Leads.{leads_of}
 use Rattle.polynomials.proofs.LeadMonomials.{within, leads_nested, leads_within, stairs_same}
-use Rattle.tables.specs.Products.{places_at, AllPlaceable, AllPlaced}
+use Rattle.tables.specs.Products.{places_at, Wide, AllPlaceable, AllPlaced}
 use Rattle.tables.specs.Columns.{polys_of, ColumnsKnown}
 use Rattle.tables.specs.Filling.{Closable, MatricesIn}
 use Rattle.tables.proofs.Edges.{border_length, rising_once}
@@ -169,7 +169,7 @@ module _ (m : FieldMeaning) (laws : FieldLaws m) (cmp : Comparison) (O : OrderLa
       let x = rules.lowest_is F n before ordered L C.passed t (edge_at i l) (sym (is_lead t) ∙ no_lead) in
       (x.0, x.1, monos.has_among n _ E (borders.edge_from n before S _ x.2))
 
-  module _ (places : List Place) (placed : AllPlaced n (map (flat n) S) (map (flat n) E) places) where
+  module _ (places : List Products) (placed : AllPlaced n (map (flat n) S) (map (flat n) E) places) where
     products : (k : ℕ) → k < n → (i : ℕ) → i < length S → PlaceOf n S E (times n (var n k) (get_or S i (one n))) (get_or (places_at places k) i (Stair 0))
     products k kn = (placed_in k kn).places (places_at places k) (placed k kn)
 
@@ -199,9 +199,9 @@ module _ (m : FieldMeaning) (laws : FieldLaws m) (cmp : Comparison) (O : OrderLa
           ∙ ap (entry-by k j i) (sym agree.same_leads)
           ∙ agree.same_matrices k j i
 
-      pub matrices : length places ≡ 192 → length columns ≡ 9216 → MatricesIn m laws cmp n ps (length S) places columns
-      matrices many-places many-columns = record {
-        ready = λ k kn. subst (λ (room : ℕ). Fits (length S) (places_at places k) room 48 (length S) (length S)) (sym many-columns) (places_fit n S E C.short edges_few k places (omega (arith, C.few)) (products k kn) (length S) (omega arith));
+      pub matrices : Wide places → length columns ≡ 9216 → MatricesIn m laws cmp n ps (length S) places columns
+      matrices wide many-columns = record {
+        ready = λ k kn. subst (λ (room : ℕ). Fits (length S) (places_at places k) room 48 (length S) (length S)) (sym many-columns) (places_fit n S E C.short edges_few k places (wide.1 k _ (omega (arith, wide.0, C.few))) (products k kn) (length S) (omega arith));
         entries = λ k j i kn hj hi. ap (el m laws) (entry-is k j i kn hj hi) ∙ el_elem m laws (Tk m laws cmp n ps k j i);
       }
 
@@ -210,8 +210,8 @@ module _ (m : FieldMeaning) (laws : FieldLaws m) (cmp : Comparison) (O : OrderLa
     pub all_placeable : AllPlaceable n stairs edges
     all_placeable = subst (λ (s : List Monomial). AllPlaceable n s edges) (sym stairs_is) (subst (AllPlaceable n (map (flat n) S)) (sym edges_is) placeable)
 
-    pub all_placed : (places : List Place) → AllPlaced n stairs edges places → AllPlaced n (map (flat n) S) (map (flat n) E) places
+    pub all_placed : (places : List Products) → AllPlaced n stairs edges places → AllPlaced n (map (flat n) S) (map (flat n) E) places
     all_placed places x = subst (λ (s : List Monomial). AllPlaced n s (map (flat n) E) places) stairs_is (subst (λ (e : List Monomial). AllPlaced n stairs e places) edges_is x)
 
-    pub all_known : (places : List Place) → AllPlaced n (map (flat n) S) (map (flat n) E) places → ColumnsKnown n S E es stairs edges places
+    pub all_known : (places : List Products) → AllPlaced n (map (flat n) S) (map (flat n) E) places → ColumnsKnown n S E es stairs edges places
     all_known places x = subst (λ (s : List Monomial). ColumnsKnown n S E es s edges places) (sym stairs_is) (subst (λ (e : List Monomial). ColumnsKnown n S E es (map (flat n) S) e places) (sym edges_is) (known places x))

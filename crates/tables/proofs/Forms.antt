@@ -15,6 +15,7 @@ use Rattle.algebra.specs.Records.{nested, flat, Within}
 use Rattle.algebra.specs.NormalForm.{Table, total, lead, rest_of, look, form, lowest, opposite, replaced, column, fill}
 use Rattle.algebra.specs.Words.{words}
 use Rattle.linear.specs.declared.step.Place.{Place}
+use Rattle.tables.specs.declared.products.Products.{Products}
 use Rattle.linear.specs.declared.step.Place.TheVariants.{Stair, Border}
 use Rattle.linear.specs.Step as step
 use Rattle.linear.proofs.Columns as linear
@@ -25,7 +26,7 @@ use Rattle.staircase.specs.Steps.{ColumnsHold, Steppable, ColumnStepped}
 use Rattle.staircase.proofs.Opposites.{length_build, opposites_rule}
 use Rattle.staircase.proofs.Replacing.{column_more}
 use Rattle.tables.specs.declared.below.Below.{Below}
-use Rattle.tables.specs.Products.{places_at}
+use Rattle.tables.specs.Products.{places_at, Wide}
 use Rattle.tables.specs.Columns.{FirstLed, LowestBelow, ElementForms, polys_of, ColumnsKnown}
 use Rattle.tables.proofs.RuleOf as rule
 
@@ -95,11 +96,11 @@ place_within : (n : ℕ) (S E : List (Mono n)) → length S ≤ 48 → length E 
 place_within n S E short few u (Stair p) h = h.0
 place_within n S E short few u (Border c) h = let l : c < length E = h.1 in omega arith
 
-pub places_fit : (n : ℕ) (S E : List (Mono n)) → length S ≤ 48 → length E ≤ 192 → (k : ℕ) (places : List Place) → k * 48 + 48 ≤ length places
+pub places_fit : (n : ℕ) (S E : List (Mono n)) → length S ≤ 48 → length E ≤ 192 → (k : ℕ) (places : List Products) → length (places_at places k) ≡ 48
     → ((i : ℕ) → i < length S → PlaceOf n S E (times n (var n k) (get_or S i (one n))) (get_or (places_at places k) i (Stair 0)))
     → (rows : ℕ) → length S ≤ rows → step.Fits (length S) (places_at places k) 9216 48 (length S) rows
 places_fit n S E short few k places room at rows enough = record {
-  enough_places = omega (arith, length-take-le 48 (drop (k * 48) places) (omega (arith, length-drop (k * 48) places)));
+  enough_places = omega arith;
   enough_words = omega arith;
   enough_rows = enough;
   within = λ i h. place_within n S E short few (times n (var n k) (get_or S i (one n))) (get_or (places_at places k) i (Stair 0)) (at i h);
@@ -107,7 +108,7 @@ places_fit n S E short few k places room at rows enough = record {
 
 -- ---- one column
 
-module _ (m : FieldMeaning) (n : ℕ) (S E : List (Mono n)) (ps : List (List Term)) (stairs edges : List Monomial) (places : List Place) (K : ColumnsKnown n S E ps stairs edges places) where
+module _ (m : FieldMeaning) (n : ℕ) (S E : List (Mono n)) (ps : List (List Term)) (stairs edges : List Monomial) (places : List Products) (K : ColumnsKnown n S E ps stairs edges places) where
   abbrev L : List (Poly ℕ n)
   L = polys_of n ps
 
@@ -171,13 +172,13 @@ module _ (m : FieldMeaning) (n : ℕ) (S E : List (Mono n)) (ps : List (List Ter
             subst (λ (u : Mono n). (b.variable ≡ lowest n E u) × (b.place < length E) × (get_or E b.place (one n) ≡ lower n (lowest n E u) u)) is
             (rule.lowest-found n K.few E edges K.edges_are t within y.0 y.1 y.2 b f)
 
-        module _ (b : Below) (f : LowestBelow n edges t (Some b)) (few-places : length places ≡ 192) (few_edges : length E ≤ 192) (few-columns : length columns ≡ 9216) where
+        module _ (b : Below) (f : LowestBelow n edges t (Some b)) (wide : Wide places) (few_edges : length E ≤ 192) (few-columns : length columns ≡ 9216) where
           pub steppable : Steppable (length S) (places_at places b.variable) (length columns) 48 b.place c 48
           steppable = record {
             from_there = omega (arith, (below-is b f).1, K.short);
             to_there = omega (arith, K.short);
             fits = subst (λ (room : ℕ). step.Fits (length S) (places_at places b.variable) room 48 (length S) 48) (sym few-columns)
-                (places_fit n S E K.short few_edges b.variable places (omega (arith, f.0, K.few)) (K.products b.variable f.0) 48 K.short);
+                (places_fit n S E K.short few_edges b.variable places (wide.1 b.variable _ (omega (arith, wide.0, f.0, K.few))) (K.products b.variable f.0) 48 K.short);
           }
 
           pub step_added : ElementForms m n tab → (after : List ℕ) → ColumnStepped m (length S) (places_at places b.variable) columns 48 b.place c after

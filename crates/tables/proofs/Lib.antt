@@ -1,5 +1,4 @@
 pub mod Answered
-pub mod Parts
 pub mod RuleOf
 pub mod Forms
 pub mod Edges

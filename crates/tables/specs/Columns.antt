@@ -28,7 +28,7 @@ use Rattle.algebra.specs.Polynomial.{Poly}
 use Rattle.algebra.specs.Records.{flat, Within}
 use Rattle.algebra.specs.NormalForm.{Table, lead, look, lowest, form, replaced, column, fill}
 use Rattle.algebra.specs.Words.{words}
-use Rattle.linear.specs.declared.step.Place.{Place}
+use Rattle.tables.specs.declared.products.Products.{Products}
 use Rattle.linear.specs.declared.step.Place.TheVariants.{Stair}
 use Rattle.staircase.specs.declared.rules.Term.{Term}
 use Rattle.staircase.specs.Search.{FirstPlace}
@@ -67,7 +67,7 @@ ElementForms m n tab = (t : Mono n) (j : ℕ) → T (m.elem (slice_index_or (loo
 abbrev pub polys_of : (n : ℕ) → List (List Term) → List (Poly ℕ n)
 polys_of n ps = map (poly_of n) ps
 
-pub record ColumnsKnown (n : ℕ) (S E : List (Mono n)) (ps : List (List Term)) (stairs edges : List Monomial) (places : List Place) : Type 0 where
+pub record ColumnsKnown (n : ℕ) (S E : List (Mono n)) (ps : List (List Term)) (stairs edges : List Monomial) (places : List Products) : Type 0 where
   pub few : n ≤ variables
   pub terms : AllByRecursion (λ p. (0 < length p) × AllByRecursion (λ t. Within n t.monomial) p) ps
   pub stairs_are : stairs ≡ map (flat n) S
@@ -80,15 +80,15 @@ pub record ColumnsKnown (n : ℕ) (S E : List (Mono n)) (ps : List (List Term)) 
   pub below : (i : ℕ) → i < length E → any (λ p. equal n (lead n p) (slice_index_or E i (one n))) (polys_of n ps) ≡ false
       → (lowest n E (slice_index_or E i (one n)) < n) × (1 ≤ exponent n (slice_index_or E i (one n)) (lowest n E (slice_index_or E i (one n)))) × Among n (lower n (lowest n E (slice_index_or E i (one n))) (slice_index_or E i (one n))) E
 
-abbrev pub ColumnSteppedBelow : {A E : Type 0} → FieldMeaning → ℕ → ℕ → List Monomial → List Place → ℕ → List ℕ → List ℕ → Result A E → Type 0
+abbrev pub ColumnSteppedBelow : {A E : Type 0} → FieldMeaning → ℕ → ℕ → List Monomial → List Products → ℕ → List ℕ → List ℕ → Result A E → Type 0
 ColumnSteppedBelow m n d edges places c before after r = (ps : List (List Term)) (stairs : List Monomial) (S E : List (Mono n)) (tab : Table ℕ n) → ColumnsKnown n S E ps stairs edges places → length S ≡ d
     → ElementForms m n tab → ColumnsHold m n S E tab before 48 → any (λ p. equal n (lead n p) (slice_index_or E c (one n))) (polys_of n ps) ≡ false
     → IsOk r × ColumnsHold m n S E ((slice_index_or E c (one n), replaced (words m) n S tab (lowest n E (slice_index_or E c (one n))) (form (words m) n S tab (lower n (lowest n E (slice_index_or E c (one n))) (slice_index_or E c (one n))))) ∷ tab) after 48
 
-abbrev pub ColumnAdded : {A E : Type 0} → FieldMeaning → ℕ → List (List Term) → List Monomial → List Monomial → List Place → ℕ → List ℕ → List ℕ → Result A E → Type 0
+abbrev pub ColumnAdded : {A E : Type 0} → FieldMeaning → ℕ → List (List Term) → List Monomial → List Monomial → List Products → ℕ → List ℕ → List ℕ → Result A E → Type 0
 ColumnAdded m n ps stairs edges places c before after r = (S E : List (Mono n)) (tab : Table ℕ n) → ColumnsKnown n S E ps stairs edges places → ElementForms m n tab → ColumnsHold m n S E tab before 48
     → IsOk r × ColumnsHold m n S E ((slice_index_or E c (one n), column (words m) n S E (polys_of n ps) tab (slice_index_or E c (one n))) ∷ tab) after 48
 
-abbrev pub ColumnsMade : {A E : Type 0} → FieldMeaning → ℕ → List (List Term) → List Monomial → List Monomial → List Place → List ℕ → Result A E → Type 0
+abbrev pub ColumnsMade : {A E : Type 0} → FieldMeaning → ℕ → List (List Term) → List Monomial → List Monomial → List Products → List ℕ → Result A E → Type 0
 ColumnsMade m n ps stairs edges places after r = (S E : List (Mono n)) → ColumnsKnown n S E ps stairs edges places
     → IsOk r × ColumnsHold m n S E (fill (words m) n S E (polys_of n ps) E []) after 48

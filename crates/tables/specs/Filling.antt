@@ -11,7 +11,7 @@ use Rattle.order.specs.Laws.{Comparison}
 use Rattle.algebra.specs.Elements.{field_of}
 use Rattle.algebra.specs.Records.{flat, before_by}
 use Rattle.algebra.specs.Basis as basis
-use Rattle.linear.specs.declared.step.Place.{Place}
+use Rattle.tables.specs.declared.products.Products.{Products}
 use Rattle.linear.specs.Step.{Fits, matrix}
 use Rattle.runs.specs.Job.{Term, new, most_stairs}
 use Rattle.runs.specs.Enter.{Enters}
@@ -26,7 +26,7 @@ pub record Closable (m : FieldMeaning) (laws : FieldLaws m) (cmp : Comparison) (
   pub passed : basis.Passed (field_of m laws) n (before_by cmp n) (generators m laws n ps)
   pub short : D m laws cmp n ps ≤ most_stairs
 
-pub record MatricesIn (m : FieldMeaning) (laws : FieldLaws m) (cmp : Comparison) (n : ℕ) (ps : List (List Term)) (d : ℕ) (places : List Place) (columns : List ℕ) : Type 0 where
+pub record MatricesIn (m : FieldMeaning) (laws : FieldLaws m) (cmp : Comparison) (n : ℕ) (ps : List (List Term)) (d : ℕ) (places : List Products) (columns : List ℕ) : Type 0 where
   pub ready : (k : ℕ) → k < n → Fits d (places_at places k) (length columns) 48 d d
   pub entries : (k j i : ℕ) → k < n → j < d → i < d → matrix m laws (places_at places k) columns 48 j i ≡ Tk m laws cmp n ps k j i
 

@@ -6,7 +6,7 @@
 --   Holds m laws cmp n ps t       the tables t hold the staircase of the polynomials ps, and the multiplication matrices T_k
 --   Steps m t k v room out r      what a step answers and writes
 -- Used by: Close, which makes the tables, and the calls to a closed job, which read them.
-use Rattle.std.specs.Prelude.{◌≡◌, ℕ, ◌*◌, ◌<◌, ◌≤◌, List, map, length, take, drop, Result, IsOk, OnOk}
+use Rattle.std.specs.Prelude.{◌≡◌, ℕ, ◌<◌, ◌≤◌, List, map, length, take, Result, IsOk, OnOk}
 use Rattle.arrayvec.specs.ArrayVec.{array_vec_len}
 use Rattle.field.specs.Meaning.{FieldMeaning, FieldLaws}
 use Rattle.order.specs.Monomials.{variables}
@@ -20,12 +20,13 @@ use Rattle.linear.specs.Step.{Fits, matrix}
 use Rattle.runs.specs.Job.{Term}
 use Rattle.runs.specs.Generators.{generators, D, Tk}
 use Rattle.tables.specs.declared.tables.Tables.{Tables}
+use Rattle.tables.specs.Products.{places_at}
 
 abbrev pub stair_count : Tables → ℕ
 stair_count t = array_vec_len t.stairs
 
 abbrev pub places_of : Tables → ℕ → List Place
-places_of t k = take 48 (drop (k * 48) t.places)
+places_of t k = places_at t.products k
 
 abbrev pub entry_of : (m : FieldMeaning) → FieldLaws m → Tables → ℕ → ℕ → ℕ → Elem m
 entry_of m laws t k = matrix m laws (places_of t k) t.columns 48

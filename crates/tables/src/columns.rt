@@ -5,12 +5,14 @@ ghost use Rattle.std.proofs.Math.Seq.{paste};
 ghost use Rattle.order.specs.Monomials.{variables};
 ghost use Rattle.staircase.specs.Rules.{opposite_words};
 ghost use Rattle.polynomials.specs.Held.{entries};
+ghost use Rattle.tables.specs.Products.{Wide};
 ghost use Rattle.tables.specs.Columns.{ColumnSteppedBelow, ColumnAdded, ColumnsMade};
 
 use crate::below::{led_by, lowest_below};
+use crate::products::Products;
 use crate::tables::matrix::STRIDE;
 use field::Field;
-use linear::step::{Misfit, Place};
+use linear::step::Misfit;
 use order::Monomial;
 use polynomials::{Polynomials, Term};
 use staircase::{next_column, opposite_column};
@@ -24,11 +26,11 @@ pub(crate) struct Frame<'a, F> {
     pub(crate) polynomials: &'a Polynomials,
     pub(crate) stairs: &'a [Monomial],
     pub(crate) edges: &'a [Monomial],
-    pub(crate) places: &'a [Place],
+    pub(crate) products: &'a [Products; 4],
     ghost few: { n ≤ variables },
     ghost short: { length stairs.now ≤ 48 },
     ghost edged: { length edges.now ≤ 192 },
-    ghost placed: { length places.now ≡ 192 },
+    ghost wide: { Wide products.now },
 }
 
 // The border monomial at a place, and what its column is made from.
@@ -57,16 +59,15 @@ impl<'b, 'a, F: Field> Edge<'b, 'a, F> {
 
     // Its column by the second rule, from the column of the border monomial below.
     fn step_column(&self, columns: &mut [u32; 9216]) -> Result<(), Misfit>
-        ensures { ColumnSteppedBelow (F.Field.meaning self.now.frame.now.field.now) self.now.frame.now.n (length self.now.frame.now.stairs.now) self.now.frame.now.edges.now self.now.frame.now.places.now self.now.place columns.old columns.new result }
+        ensures { ColumnSteppedBelow (F.Field.meaning self.now.frame.now.field.now) self.now.frame.now.n (length self.now.frame.now.stairs.now) self.now.frame.now.edges.now self.now.frame.now.products.now self.now.place columns.old columns.new result }
     {
         let t = self.frame.edges[self.place];
         let below = lowest_below(self.frame.n, self.frame.edges, t).ok_or(Misfit)?;
-        let start = below.variable * STRIDE;
         let mut out = [0; 48];
         next_column(
             self.frame.field,
             self.frame.stairs.len(),
-            &self.frame.places[start..start + STRIDE],
+            &self.frame.products[below.variable].places,
             columns,
             STRIDE,
             below.place,
@@ -77,7 +78,7 @@ impl<'b, 'a, F: Field> Edge<'b, 'a, F> {
 
     // Its column by the rule that its monomial falls under.
     fn fill_column(&self, columns: &mut [u32; 9216]) -> Result<(), Misfit>
-        ensures { ColumnAdded (F.Field.meaning self.now.frame.now.field.now) self.now.frame.now.n (entries self.now.frame.now.polynomials.now) self.now.frame.now.stairs.now self.now.frame.now.edges.now self.now.frame.now.places.now self.now.place columns.old columns.new result }
+        ensures { ColumnAdded (F.Field.meaning self.now.frame.now.field.now) self.now.frame.now.n (entries self.now.frame.now.polynomials.now) self.now.frame.now.stairs.now self.now.frame.now.edges.now self.now.frame.now.products.now self.now.place columns.old columns.new result }
     {
         match led_by(self.frame.polynomials, self.frame.edges[self.place]) {
             Some(i) => self.lead_column(self.frame.polynomials.polynomial(i), columns),
@@ -89,7 +90,7 @@ impl<'b, 'a, F: Field> Edge<'b, 'a, F> {
 impl<'a, F: Field> Frame<'a, F> {
     // The columns of all border monomials, in their order: refused where one falls under no rule.
     pub(crate) fn fill_columns(&self, columns: &mut [u32; 9216]) -> Result<(), Misfit>
-        ensures { ColumnsMade (F.Field.meaning self.now.field.now) self.now.n (entries self.now.polynomials.now) self.now.stairs.now self.now.edges.now self.now.places.now columns.new result }
+        ensures { ColumnsMade (F.Field.meaning self.now.field.now) self.now.n (entries self.now.polynomials.now) self.now.stairs.now self.now.edges.now self.now.products.now columns.new result }
     {
         columns.fill(self.field.zero());
         // By number: an edge is its place, by which the monomial and the column are both asked for.

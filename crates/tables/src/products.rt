@@ -1,27 +1,53 @@
 // The places of the products of every variable and the staircase monomials.
-ghost use Rattle.std.specs.Prelude.{◌≤◌};
+ghost use Rattle.std.specs.Prelude.{◌≡◌, ◌≤◌, ◌↔◌, length, IsOk, IfOk};
 ghost use Rattle.order.specs.Monomials.{variables};
-ghost use Rattle.tables.specs.Products.{AllPlaceable, PlacesFound};
+ghost use Rattle.staircase.specs.Places.{Placeable, Placed};
+ghost use Rattle.tables.specs.Products.{Wide, AllPlaceable, PlacesFound};
 
-use crate::tables::matrix::STRIDE;
 use linear::step::{Misfit, Place};
 use order::Monomial;
 use staircase::places;
 
-// The places of the products of the first `n` variables, from k * STRIDE on for the variable of index
-// k: refused where a product has no place.
+// The places of the products of one variable, by the place of the staircase monomial.
+#[derive(Clone, Copy)]
+pub(crate) struct Products {
+    pub(crate) places: [Place; 48],
+}
+
+impl Products {
+    pub(crate) fn new() -> Products
+        ensures { length result.places ≡ 48 }
+    {
+        Products {
+            places: [Place::Stair(0); 48],
+        }
+    }
+
+    // Those of the variable of index k: refused where one has no place.
+    fn find(k: usize, stairs: &[Monomial], edges: &[Monomial]) -> Result<Products, Misfit>
+        ensures fits { IsOk result ↔ Placeable k stairs.now edges.now 48 }
+        ensures found { IfOk result (λ found. (length found.places ≡ 48) × Placed k stairs.now edges.now found.places) }
+    {
+        let mut found = [Place::Stair(0); 48];
+        places(k, stairs, edges, &mut found)?;
+        Ok(Products { places: found })
+    }
+}
+
+// Those of each of the first `n` variables, by its index.
 pub(crate) fn find_places(
     n: usize,
     stairs: &[Monomial],
     edges: &[Monomial],
-) -> Result<[Place; 192], Misfit>
+) -> Result<[Products; 4], Misfit>
     requires { n ≤ variables }
-    ensures { AllPlaceable n stairs.now edges.now → PlacesFound n stairs.now edges.now result }
+    ensures wide { IfOk result Wide }
+    ensures found { AllPlaceable n stairs.now edges.now → PlacesFound n stairs.now edges.now result }
 {
-    let mut all = [Place::Stair(0); 192];
-    // By index: of places that were written through chunks_mut a proof knows only how many they are.
+    let mut all = [Products::new(); 4];
+    // By number: a variable has no other name.
     for k in 0..n {
-        places(k, stairs, edges, &mut all[k * STRIDE..k * STRIDE + STRIDE])?;
+        all[k] = Products::find(k, stairs, edges)?;
     }
     Ok(all)
 }

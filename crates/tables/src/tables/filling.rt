@@ -28,7 +28,7 @@ impl Tables {
             return Err(Misfit);
         }
         let edges = border::<O, 192>(order, n, stairs.as_slice()).map_err(|_many| Misfit)?;
-        let places = find_places(n, stairs.as_slice(), edges.as_slice())?;
+        let products = find_places(n, stairs.as_slice(), edges.as_slice())?;
         let mut columns = [0; 9216];
         let frame = Frame {
             field,
@@ -36,12 +36,12 @@ impl Tables {
             polynomials,
             stairs: stairs.as_slice(),
             edges: edges.as_slice(),
-            places: &places,
+            products: &products,
         };
         frame.fill_columns(&mut columns)?;
         Ok(Tables {
             stairs,
-            places,
+            products,
             columns,
         })
     }

@@ -5,13 +5,13 @@ ghost use Rattle.tables.specs.Holds.{stair_count, Steps};
 ghost use Rattle.order.specs.Monomials.{one};
 
 use crate::Tables;
+use crate::products::Products;
 use arrayvec::ArrayVec;
 use field::Field;
-use linear::step::{Matrix, Misfit, Place, step};
+use linear::step::{Matrix, Misfit, step};
 use order::Monomial;
 
-// How many places and columns there are for each variable, and the words from one column to the
-// next.
+// How many words there are from one column to the next.
 pub(crate) const STRIDE: usize = 48;
 
 impl Tables {
@@ -21,7 +21,7 @@ impl Tables {
     {
         Tables {
             stairs: ArrayVec::new(),
-            places: [Place::Stair(0); 192],
+            products: [Products::new(); 4],
             columns: [0; 9216],
         }
     }
@@ -57,7 +57,7 @@ impl Tables {
             return Err(Misfit);
         }
         let matrix = Matrix {
-            places: &self.places[k * STRIDE..k * STRIDE + STRIDE],
+            places: &self.products[k].places,
             columns: &self.columns,
             stride: STRIDE,
         };

@@ -1,6 +1,5 @@
-use Rattle.std.proofs.Common.{◌≡◌, ℕ, ◌+◌, ◌-◌, ◌*◌, ◌<◌, ◌≤◌, List, length, take, drop, sym, ap, subst, arith}
+use Rattle.std.proofs.Common.{ℕ, ◌<◌, ◌≤◌, length, sym, subst, arith}
 use Rattle.order.specs.Monomials.{one, monomial}
-use Rattle.linear.specs.declared.step.Place.{Place}
 use Rattle.staircase.specs.Steps.{Steppable, ColumnStepped}
 use Rattle.tables.specs.Products.{places_at}
 use Rattle.tables.proofs.Answered.{on_ok}
@@ -13,7 +12,7 @@ returns-in_err-below g c ps stairs S E tab K len els hold no_lead =
     let m = g.F.Field.meaning c.args.self.now.frame.now.field.now in
     let n = c.args.self.now.frame.now.n in
     let edges = c.args.self.now.frame.now.edges.now in
-    let places = c.args.self.now.frame.now.places.now in
+    let places = c.args.self.now.frame.now.products.now in
     let inside : c.args.self.now.place < length E = omega (arith, c.args.self.now.inside, forms.edge_count m n S E ps stairs edges places K) in
     let none = rw c.in_err-below.ensures.ok_part at c.lowest_below.ensures in
     absurd (forms.never-none m n S E ps stairs edges places K c.args.self.now.place inside tab c.args.columns.now hold no_lead none)
@@ -24,7 +23,7 @@ returns g c ps stairs S E tab K len els hold no_lead =
     let m = g.F.Field.meaning c.args.self.now.frame.now.field.now in
     let n = c.args.self.now.frame.now.n in
     let edges = c.args.self.now.frame.now.edges.now in
-    let places = c.args.self.now.frame.now.places.now in
+    let places = c.args.self.now.frame.now.products.now in
     let columns = c.args.columns.now in
     let b = c.in_ok-below.below in
     let k = b.variable in
@@ -32,9 +31,7 @@ returns g c ps stairs S E tab K len els hold no_lead =
     let count = forms.edge_count m n S E ps stairs edges places K in
     let inside : c.args.self.now.place < length E = omega (arith, c.args.self.now.inside, count) in
     let few : length E ≤ 192 = omega (arith, c.args.self.now.frame.now.edged, count) in
-    let width : k * 48 + 48 - k * 48 ≡ 48 = omega arith in
-    let same : take (k * 48 + 48 - k * 48) (drop (k * 48) places) ≡ places_at places k = ap (λ (w : ℕ). take w (drop (k * 48) places)) width in
-    let fits = forms.steppable m n S E ps stairs edges places K c.args.self.now.place inside tab columns hold no_lead b low c.args.self.now.frame.now.placed few (omega arith) in
-    let fine = c.next_column.ensures.fits.1 (subst (λ (p : List Place). Steppable (length c.args.self.now.frame.now.stairs.now) p (length columns) 48 b.place c.args.self.now.place 48) (sym same) (subst (λ (d : ℕ). Steppable d (places_at places k) (length columns) 48 b.place c.args.self.now.place 48) len fits)) in
-    let stepped = subst (λ (p : List Place). ColumnStepped m (length c.args.self.now.frame.now.stairs.now) p columns 48 b.place c.args.self.now.place c.next_column.new.columns) same (on_ok c.next_column.result fine c.next_column.ensures.stepped) in
-    (fine, forms.step_added m n S E ps stairs edges places K c.args.self.now.place inside tab columns hold no_lead b low c.args.self.now.frame.now.placed few (omega arith) els c.next_column.new.columns (subst (λ (d : ℕ). ColumnStepped m d (places_at places k) columns 48 b.place c.args.self.now.place c.next_column.new.columns) (sym len) stepped))
+    let fits = forms.steppable m n S E ps stairs edges places K c.args.self.now.place inside tab columns hold no_lead b low c.args.self.now.frame.now.wide few (omega arith) in
+    let fine = c.next_column.ensures.fits.1 (subst (λ (d : ℕ). Steppable d (places_at places k) (length columns) 48 b.place c.args.self.now.place 48) len fits) in
+    let stepped = on_ok c.next_column.result fine c.next_column.ensures.stepped in
+    (fine, forms.step_added m n S E ps stairs edges places K c.args.self.now.place inside tab columns hold no_lead b low c.args.self.now.frame.now.wide few (omega arith) els c.next_column.new.columns (subst (λ (d : ℕ). ColumnStepped m d (places_at places k) columns 48 b.place c.args.self.now.place c.next_column.new.columns) (sym len) stepped))

@@ -10,7 +10,7 @@ use Rattle.tables.proofs.columns.Frame.fill_columns.Goals as goal
 
 pub loop-c-init : goal.loop-c-init
 loop-c-init g c S E K b j hb hj =
-    let inside : b * 48 + j < length c.fill.new.self = omega (arith, K.short, c.fill.auto.self, c.args.self.now.edged, forms.edge_count (g.F.Field.meaning c.args.self.now.field.now) c.args.self.now.n S E (entries c.args.self.now.polynomials.now) c.args.self.now.stairs.now c.args.self.now.edges.now c.args.self.now.places.now K) in
+    let inside : b * 48 + j < length c.fill.new.self = omega (arith, K.short, c.fill.auto.self, c.args.self.now.edged, forms.edge_count (g.F.Field.meaning c.args.self.now.field.now) c.args.self.now.n S E (entries c.args.self.now.polynomials.now) c.args.self.now.stairs.now c.args.self.now.edges.now c.args.self.now.products.now K) in
     search rules
 
 pub returns-in_err-fill_column : goal.returns-in_err-fill_column
@@ -32,7 +32,7 @@ loop-c-preserved g c S E K =
     let laws = g.met.F.Field.lawful c.args.self.now.field.now in
     let out = g.met.F.Field.everywhere c.args.self.now.field.now in
     let tab = fill (words m) n S E L (take c.loop-c.c E) [] in
-    let inside : c.loop-c.c < length E = omega (arith, c.loop-c-test.true, forms.edge_count m n S E ps c.args.self.now.stairs.now c.args.self.now.edges.now c.args.self.now.places.now K) in
+    let inside : c.loop-c.c < length E = omega (arith, c.loop-c-test.true, forms.edge_count m n S E ps c.args.self.now.stairs.now c.args.self.now.edges.now c.args.self.now.products.now K) in
     subst (λ (t : Table ℕ n). ColumnsHold m n S E t c.fill_column.new.columns 48) (sym (forms.fill_more m n S E L c.loop-c.c inside))
     (c.in_ok-fill_column.ensures S E tab K (forms.fill_forms m laws out n S E L (take c.loop-c.c E) [] (forms.no_forms m laws out n S E L)) (c.loop-c.invariant S E K)).1
 
@@ -41,5 +41,5 @@ returns g c S E K =
     let m = g.F.Field.meaning c.args.self.now.field.now in
     let n = c.args.self.now.n in
     let ps = entries c.args.self.now.polynomials.now in
-    let all : length E ≤ c.loop-c.c = omega (arith, c.loop-c-test.false, forms.edge_count m n S E ps c.args.self.now.stairs.now c.args.self.now.edges.now c.args.self.now.places.now K) in
+    let all : length E ≤ c.loop-c.c = omega (arith, c.loop-c-test.false, forms.edge_count m n S E ps c.args.self.now.stairs.now c.args.self.now.edges.now c.args.self.now.products.now K) in
     (refl, subst (λ (t : Table ℕ n). ColumnsHold m n S E t c.loop-c.columns 48) (forms.fill_all m n S E (polys_of n ps) c.loop-c.c all) (c.loop-c.invariant S E K))

@@ -1,4 +1,4 @@
-use Rattle.std.proofs.Common.{ℕ, length, sym, ap, ◌∙◌, subst, arith}
+use Rattle.std.proofs.Common.{ℕ, length, sym, ap, ◌∙◌, subst}
 use lib.ListN.{length-map}
 use mathlib.Core.Bool.{false≢true}
 use Rattle.algebra.specs.Records.{flat, before_by}
@@ -18,8 +18,8 @@ returns-in_err-edges g c laws C is =
     let found = closing.edges_found m laws cmp O c.args.n (entries c.args.polynomials.now) C c.as_slice.result.now (c.as_slice.ensures.value ∙ is) c.border.result c.border.ensures in
     absurd (rw (mapped_err _ c.border.result c.map_err.result c.in_err-edges.field-0.0 c.in_err-edges.was c.map_err.ensures.cases).1 at found)
 
-pub returns-in_err-places : goal.returns-in_err-places
-returns-in_err-places g c laws C is =
+pub returns-in_err-products : goal.returns-in_err-products
+returns-in_err-products g c laws C is =
     let m = g.F.Field.meaning c.args.field.now in
     let cmp = g.O.Order.meaning c.args.order.now in
     let O = g.met.O.Order.lawful c.args.order.now in
@@ -31,7 +31,7 @@ returns-in_err-places g c laws C is =
     let stairs_is = c.as_slice-2.ensures.value ∙ is in
     let edges_is = c.as_slice-3.ensures.value ∙ are in
     let able = closing.all_placeable m laws cmp O n es C stairs edges stairs_is edges_is in
-    absurd (c.in_err-places.ensures able)
+    absurd (c.in_err-products.ensures.found able)
 
 pub returns-in_err-fill_columns : goal.returns-in_err-fill_columns
 returns-in_err-fill_columns g c laws C is =
@@ -48,8 +48,8 @@ returns-in_err-fill_columns g c laws C is =
     let stairs_is = c.as_slice-2.ensures.value ∙ is in
     let edges_is = c.as_slice-3.ensures.value ∙ are in
     let able = closing.all_placeable m laws cmp O n es C stairs edges stairs_is edges_is in
-    let places = c.in_ok-places.places in
-    let placed = closing.all_placed m laws cmp O n es C stairs edges stairs_is edges_is places (c.in_ok-places.ensures able) in
+    let places = c.in_ok-products.products in
+    let placed = closing.all_placed m laws cmp O n es C stairs edges stairs_is edges_is places (c.in_ok-products.ensures.found able) in
     let known = closing.all_known m laws cmp O n es C c.as_slice-4.result.now c.as_slice-5.result.now (c.as_slice-4.ensures.value ∙ is) (c.as_slice-5.ensures.value ∙ are) places placed in
     absurd (false≢true (c.in_err-fill_columns.ensures S E known).0)
 
@@ -68,11 +68,12 @@ returns g c laws C is =
     let stairs_is = c.as_slice-2.ensures.value ∙ is in
     let edges_is = c.as_slice-3.ensures.value ∙ are in
     let able = closing.all_placeable m laws cmp O n es C stairs edges stairs_is edges_is in
-    let places = c.in_ok-places.places in
-    let placed = closing.all_placed m laws cmp O n es C stairs edges stairs_is edges_is places (c.in_ok-places.ensures able) in
+    let places = c.in_ok-products.products in
+    let placed = closing.all_placed m laws cmp O n es C stairs edges stairs_is edges_is places (c.in_ok-products.ensures.found able) in
     let known = closing.all_known m laws cmp O n es C c.as_slice-4.result.now c.as_slice-5.result.now (c.as_slice-4.ensures.value ∙ is) (c.as_slice-5.ensures.value ∙ are) places placed in
     let columns = c.fill_columns.new.columns in
+    let wide = c.in_ok-products.ensures.wide in
     let made = c.in_ok-fill_columns.ensures S E known in
     let size = ap length is ∙ length-map S (flat n) in
-    let held_in = subst (λ (d : ℕ). MatricesIn m laws cmp n (held c.args.polynomials.now) d places columns) (sym size) (closing.matrices m laws cmp O n es C places placed columns made.1 (omega arith) c.fill_columns.array_long) in
+    let held_in = subst (λ (d : ℕ). MatricesIn m laws cmp n (held c.args.polynomials.now) d places columns) (sym size) (closing.matrices m laws cmp O n es C places placed columns made.1 wide c.fill_columns.array_long) in
     record { size = size; stairs = is; ready = held_in.ready; entries = held_in.entries }

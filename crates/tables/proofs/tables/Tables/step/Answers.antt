@@ -1,4 +1,4 @@
-use Rattle.std.proofs.Common.{◌≡◌, ℕ, ◌+◌, ◌-◌, ◌*◌, List, length, take, drop, sym, ap, subst, arith}
+use Rattle.std.proofs.Common.{◌≡◌, ℕ, List, length, take, drop, sym, subst}
 use Rattle.std.proofs.lemmas.Result.{on_ok_weaker}
 use Rattle.algebra.specs.Elements.{Elems}
 use Rattle.linear.specs.declared.step.Place.{Place}
@@ -13,9 +13,7 @@ returns g c =
     let k = c.args.k in
     let d = stair_count t in
     let out = c.step.new.out in
-    let whole : k * 48 + 48 - k * 48 ≡ 48 = omega arith in
-    let given : List Place = take (k * 48 + 48 - k * 48) (drop (k * 48) t.places) in
-    let same : given ≡ places_of t k = ap (λ (x : ℕ). take x (drop (k * 48) t.places)) whole in
+    let given : List Place = places_of t k in
     let e = c.step.ensures in
     let is = c.size.ensures in
     record {
@@ -23,10 +21,9 @@ returns g c =
       rest_unchanged = subst (λ (d : ℕ). drop d out ≡ drop d c.args.out.now) is e.rest_unchanged;
       stepped = record {
         answers = λ n few l ready words room. e.fits.1 (subst (λ (d : ℕ). linear.Fits d given (length t.columns) 48 (length c.args.v.now) (length c.args.out.now)) (sym is)
-            (subst (λ (ps : List Place). linear.Fits d ps (length t.columns) 48 (length c.args.v.now) (length c.args.out.now)) (sym same)
-            (let f = ready k l in record { enough_places = f.enough_places; enough_words = words; enough_rows = room; within = f.within })));
+            (let f = ready k l in record { enough_places = f.enough_places; enough_words = words; enough_rows = room; within = f.within }));
         product = on_ok_weaker c.step.result
-            (λ stepped els. let s = subst (λ (ps : List Place). linear.Stepped m d ps t.columns 48 c.args.v.now out) same (subst (λ (d : ℕ). linear.Stepped m d given t.columns 48 c.args.v.now out) is (stepped (subst (λ (d : ℕ). Elems m (take d c.args.v.now)) (sym is) els))) in record { elements = s.elements; applied = s.applied })
+            (λ stepped els. let s = subst (λ (d : ℕ). linear.Stepped m d given t.columns 48 c.args.v.now out) is (stepped (subst (λ (d : ℕ). Elems m (take d c.args.v.now)) (sym is) els)) in record { elements = s.elements; applied = s.applied })
             e.stepped;
       };
     }
