@@ -1,16 +1,16 @@
 // The rows that Convert writes: the right-hand sides, the table of the sequence, and the row of each
 // variable into its own part of the output.
-ghost use Rattle.std.specs.Prelude.{◌≡◌, ℕ, ◌+◌, ◌-◌, ◌*◌, ◌<◌, ◌≤◌, ◌≢◌, OnOk, length, take, drop, slice_index};
+ghost use Rattle.std.specs.Prelude.{◌≡◌, ℕ, ◌+◌, ◌-◌, ◌*◌, ◌<◌, ◌≤◌, ◌≢◌, [], IfOk, length, take, drop, slice_index, slice_index_or};
 ghost use Rattle.field.specs.Meaning.{FieldLaws};
 ghost use Rattle.algebra.specs.Vector.{Independent};
 ghost use Rattle.algebra.specs.Elements.{Elem, field_of};
 ghost use Rattle.linear.specs.Hankel.{hankel};
 ghost use Rattle.linear.specs.Elimination as elimination;
 ghost use Rattle.tables.specs.Holds.{stair_count};
-ghost use Rattle.conversion.specs.Powers.{OnlyUnready, width, Stands, StandsAt, map_of, unit, measure};
+ghost use Rattle.conversion.specs.Powers.{OnlyUnready, width, Stands, map_of, unit, measure};
 ghost use Rattle.conversion.specs.Rows.{Row};
 
-use crate::powers::{Conversion, WIDTH, Walk};
+use crate::powers::{Conversion, Walk};
 use field::Field;
 use linear::elimination::{Echelon, Family};
 use linear::step::Misfit;
@@ -26,31 +26,33 @@ fn put_backwards(polynomial: &[u32], out: &mut [u32])
 }
 
 impl<'a, F: Field> Conversion<'a, F> {
-    // The words r . T_k^j T_i e, into all of `out`; nothing for x_k itself, whose row needs none.
-    fn right_side(&self, i: usize, walk: &mut Walk, out: &mut [u32]) -> Result<(), Misfit>
+    // The words r . T_k^j T_i e, as many as there are places; zeros for x_k itself, whose row needs none.
+    fn right_side(&self, i: usize, walk: &mut Walk) -> Result<[u32; 48], Misfit>
         requires { i < self.now.matrices.n }
         ensures fits { OnlyUnready self.now.matrices.tables.now self.now.matrices.n result }
-        ensures measured { let m = F.Field.meaning self.now.matrices.field.now in let t = self.now.matrices.tables.now in OnOk result (i ≢ self.now.k → (laws : FieldLaws m) → Stands m (length out.old) out.new (measure m laws t self.now.k self.now.r.now (map_of m laws t i (unit m laws)))) }
+        ensures measured { let m = F.Field.meaning self.now.matrices.field.now in let t = self.now.matrices.tables.now in IfOk result (λ side. (laws : FieldLaws m) → i ≢ self.now.k → Stands m (stair_count t) side (measure m laws t self.now.k self.now.r.now (map_of m laws t i (unit m laws)))) }
     {
+        let mut side = [0; 48];
         if i == self.k {
-            return Ok(());
+            return Ok(side);
         }
         walk.start(self.matrices.field);
         self.matrices.advance(i, walk)?;
-        self.measure(walk, out)
+        self.measure(walk, &mut side[..self.matrices.tables.size()])?;
+        Ok(side)
     }
 
-    // Those of each variable, WIDTH words after those of the one before.
-    pub(crate) fn right_sides(&self, walk: &mut Walk, sides: &mut [u32; 192]) -> Result<(), Misfit>
+    // Those of each variable, by its index.
+    pub(crate) fn right_sides(&self, walk: &mut Walk) -> Result<[[u32; 48]; 4], Misfit>
         ensures fits { OnlyUnready self.now.matrices.tables.now self.now.matrices.n result }
-        ensures measured { let m = F.Field.meaning self.now.matrices.field.now in let t = self.now.matrices.tables.now in OnOk result ((laws : FieldLaws m) (i : ℕ) → i < self.now.matrices.n → i ≢ self.now.k → StandsAt m (stair_count t) (i * width) sides.new (measure m laws t self.now.k self.now.r.now (map_of m laws t i (unit m laws)))) }
+        ensures measured { let m = F.Field.meaning self.now.matrices.field.now in let t = self.now.matrices.tables.now in IfOk result (λ sides. (laws : FieldLaws m) (i : ℕ) → i < self.now.matrices.n → i ≢ self.now.k → Stands m (stair_count t) (slice_index_or sides i []) (measure m laws t self.now.k self.now.r.now (map_of m laws t i (unit m laws)))) }
     {
-        let d = self.matrices.tables.size();
-        // By index: of words that were written through chunks_mut a proof knows only how many they are.
+        let mut sides = [[0; 48]; 4];
+        // By number: a variable has no other name.
         for i in 0..self.matrices.n {
-            self.right_side(i, walk, &mut sides[i * WIDTH..i * WIDTH + d])?;
+            sides[i] = self.right_side(i, walk)?;
         }
-        Ok(())
+        Ok(sides)
     }
 
     // Takes the rows of the table s_(i+j), i and j below the size of the staircase, for `solve`: all of
@@ -74,22 +76,20 @@ impl<'a, F: Field> Conversion<'a, F> {
         &self,
         i: usize,
         connection: &[u32; 97],
-        sides: &[u32; 192],
+        side: &[u32; 48],
         echelon: &mut Echelon<48>,
         out: &mut [u32],
     )
-        requires variable { i < self.now.matrices.n }
-        requires short { length out.old ≤ width }
+        requires { length out.old ≤ width }
         ensures rows_unchanged { echelon.new.rows ≡ echelon.old.rows }
         ensures pivots_unchanged { echelon.new.pivots ≡ echelon.old.pivots }
-        ensures row { let m = F.Field.meaning self.now.matrices.field.now in let d = length out.old in (laws : FieldLaws m) (v : ℕ → ℕ → Elem m) (b : ℕ → Elem m) → elimination.Table m laws d d v echelon.old.rows echelon.old.pivots → (i ≢ self.now.k → StandsAt m d (i * width) sides.now b) → Row m laws d v connection.now b i self.now.k (λ l. slice_index out.new l) }
+        ensures row { let m = F.Field.meaning self.now.matrices.field.now in let d = length out.old in (laws : FieldLaws m) (v : ℕ → ℕ → Elem m) (b : ℕ → Elem m) → elimination.Table m laws d d v echelon.old.rows echelon.old.pivots → (i ≢ self.now.k → Stands m d side.now b) → Row m laws d v connection.now b i self.now.k (λ l. slice_index out.new l) }
     {
         if i == self.k {
             put_backwards(connection, out);
             return;
         }
-        let d = out.len();
-        let side = &sides[i * WIDTH..i * WIDTH + d];
+        let side = &side[..out.len()];
         let _ = echelon.solve(self.matrices.field, side, out);
     }
 
@@ -97,18 +97,24 @@ impl<'a, F: Field> Conversion<'a, F> {
     pub(crate) fn write_rows(
         &self,
         connection: &[u32; 97],
-        sides: &[u32; 192],
+        sides: &[[u32; 48]; 4],
         echelon: &mut Echelon<48>,
         out: &mut [u32],
     )
         requires { self.now.matrices.n * stair_count self.now.matrices.tables.now ≤ length out.old }
         ensures rest_unchanged { let size = self.now.matrices.n * stair_count self.now.matrices.tables.now in drop size out.new ≡ drop size out.old }
-        ensures rows { let m = F.Field.meaning self.now.matrices.field.now in let d = stair_count self.now.matrices.tables.now in (laws : FieldLaws m) (v : ℕ → ℕ → Elem m) (b : ℕ → ℕ → Elem m) → elimination.Table m laws d d v echelon.old.rows echelon.old.pivots → ((i : ℕ) → i < self.now.matrices.n → i ≢ self.now.k → StandsAt m d (i * width) sides.now (b i)) → (i : ℕ) → i < self.now.matrices.n → Row m laws d v connection.now (b i) i self.now.k (λ l. slice_index out.new (i * d + l)) }
+        ensures rows { let m = F.Field.meaning self.now.matrices.field.now in let d = stair_count self.now.matrices.tables.now in (laws : FieldLaws m) (v : ℕ → ℕ → Elem m) (b : ℕ → ℕ → Elem m) → elimination.Table m laws d d v echelon.old.rows echelon.old.pivots → ((i : ℕ) → i < self.now.matrices.n → i ≢ self.now.k → Stands m d (slice_index_or sides.now i []) (b i)) → (i : ℕ) → i < self.now.matrices.n → Row m laws d v connection.now (b i) i self.now.k (λ l. slice_index out.new (i * d + l)) }
     {
         let d = self.matrices.tables.size();
         // By index: of words that were written through chunks_mut a proof knows only how many they are.
         for i in 0..self.matrices.n {
-            self.write_row(i, connection, sides, echelon, &mut out[i * d..i * d + d]);
+            self.write_row(
+                i,
+                connection,
+                &sides[i],
+                echelon,
+                &mut out[i * d..i * d + d],
+            );
         }
     }
 }

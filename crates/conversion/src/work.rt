@@ -20,7 +20,7 @@ use polynomials::JobFault;
 #[derive(Drop)]
 pub(crate) struct Work {
     walk: Walk,
-    // Flat, a vector every WIDTH words: the elimination of linear reads a family by its stride.
+    // Flat, a vector every WIDTH words, as elimination takes a family: rows would be flattened to be lent.
     vectors: [u32; 2304],
     sequence: [u32; 96],
     echelon: Echelon<48>,
@@ -28,8 +28,6 @@ pub(crate) struct Work {
     connection: [u32; 97],
     previous: [u32; 97],
     spare: [u32; 97],
-    // Flat too: the contracts read a part of the sides, as one of the vectors, by the word it begins at.
-    sides: [u32; 192],
 }
 
 impl<'a, F: Field> Conversion<'a, F> {
@@ -54,7 +52,6 @@ impl Work {
             connection: [0; 97],
             previous: [0; 97],
             spare: [0; 97],
-            sides: [0; 192],
         }
     }
 
@@ -91,9 +88,9 @@ impl Work {
         ensures rest_unchanged { let size = by.now.matrices.n * stair_count by.now.matrices.tables.now in drop size out.new ≡ drop size out.old }
         ensures rows { let m = F.Field.meaning by.now.matrices.field.now in let t = by.now.matrices.tables.now in (laws : FieldLaws m) → Ready t by.now.matrices.n → Whole m laws t by.now.k by.now.r.now self.old.sequence → Independent (field_of m laws) (stair_count t) (stair_count t) (hankel (field_of m laws) (measure m laws t by.now.k by.now.r.now (unit m laws))) → RowsWritten m laws t by.now.k by.now.r.now by.now.matrices.n self.old.connection out.new result }
     {
-        by.right_sides(&mut self.walk, &mut self.sides)?;
+        let sides = by.right_sides(&mut self.walk)?;
         by.take_table(&self.sequence, &mut self.echelon);
-        by.write_rows(&self.connection, &self.sides, &mut self.echelon, out);
+        by.write_rows(&self.connection, &sides, &mut self.echelon, out);
         Ok(())
     }
 }

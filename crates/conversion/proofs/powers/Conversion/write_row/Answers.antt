@@ -1,9 +1,8 @@
-use Rattle.std.proofs.Common.{◌≡◌, ℕ, ◌+◌, ◌-◌, ◌*◌, length, take, drop, sym, refl, ◌∙◌, subst, arith}
+use Rattle.std.proofs.Common.{◌≡◌, ℕ, length, take, sym, refl, ◌∙◌, subst, arith, length-take-le, get_or-take}
 use Rattle.linear.specs.Elimination.{Table}
 use Rattle.conversion.specs.Powers.{Stands}
-use Rattle.conversion.proofs.Overwriting.{part_length}
 use Rattle.conversion.proofs.Room.{is_roomy}
-use Rattle.conversion.proofs.Standing.{elem_by, part_stands}
+use Rattle.conversion.proofs.Standing.{elem_by}
 use Rattle.conversion.proofs.Solving.{solved_row}
 use Rattle.conversion.proofs.powers.Conversion.write_row.Goals as goal
 
@@ -21,11 +20,9 @@ returns g c = record {
   row = λ laws v b G st.
       let m = g.F.Field.meaning c.args.self.now.matrices.field.now in
       let d = length c.args.out.now in
-      let a = c.args.i * 48 in
-      let w : ℕ = a + d - a in
-      let side = take w (drop a c.args.sides.now) in
-      let long : length side ≡ d = part_length a w c.args.sides.now (omega arith) ∙ omega arith in
-      let stand : Stands m d side b = part_stands m laws d a w c.args.sides.now b (omega arith) (st c.if-i-self.false) in
+      let side = take d c.args.side.now in
+      let long : length side ≡ d = length-take-le d c.args.side.now (omega arith) in
+      let stand : Stands m d side b = λ j h. get_or-take d c.args.side.now j 0 h ∙ st c.if-i-self.false j h in
       record {
         backwards = λ e. absurd (c.if-i-self.false e);
         solves = λ ne. solved_row m laws d v b side c.solve.new.out c.solve.result long c.solve.auto.out stand

@@ -1,10 +1,10 @@
-use Rattle.std.proofs.Common.{◌≡◌, ℕ, ◌+◌, ◌-◌, ◌*◌, ◌<◌, ◌≤◌, ◌≢◌, List, length, get_or, take, drop, sym, ◌∙◌, subst, arith, below_more}
+use Rattle.std.proofs.Common.{◌≡◌, ℕ, ◌+◌, ◌-◌, ◌*◌, ◌<◌, ◌≤◌, ◌≢◌, [], List, length, get_or, take, drop, sym, ◌∙◌, subst, arith, below_more}
 use borrow.Rule.Slice.PartMut.{put_mid}
 use Rattle.std.proofs.lemmas.Slice.{drop-put_mid}
 use Rattle.field.specs.Meaning.{FieldLaws}
 use Rattle.algebra.specs.Elements.{Elem}
 use Rattle.linear.specs.Elimination.{Table}
-use Rattle.conversion.specs.Powers.{width, StandsAt}
+use Rattle.conversion.specs.Powers.{Stands}
 use Rattle.conversion.specs.Rows.{Row}
 use Rattle.conversion.proofs.Overwriting.{row_ends, mid_below, mid_in, part_length}
 use Rattle.conversion.proofs.Solving.{row_along}
@@ -47,6 +47,6 @@ returns g c =
     record {
       rest_unchanged = subst (λ (d : ℕ). drop (n * d) out ≡ drop (n * d) c.args.out.now) c.size-d.ensures c.loop-i.invariant.0;
       rows = λ laws v b.
-          subst (λ (d : ℕ). Table m laws d d v c.args.echelon.now.rows c.args.echelon.now.pivots → ((i : ℕ) → i < n → i ≢ c.args.self.now.k → StandsAt m d (i * width) c.args.sides.now (b i)) → (i : ℕ) → i < n → Row m laws d v connection (b i) i c.args.self.now.k (λ l. get_or out (i * d + l) 0)) c.size-d.ensures
+          subst (λ (d : ℕ). Table m laws d d v c.args.echelon.now.rows c.args.echelon.now.pivots → ((i : ℕ) → i < n → i ≢ c.args.self.now.k → Stands m d (get_or c.args.sides.now i []) (b i)) → (i : ℕ) → i < n → Row m laws d v connection (b i) i c.args.self.now.k (λ l. get_or out (i * d + l) 0)) c.size-d.ensures
           (λ G st i h. c.loop-i.invariant.3 i (omega arith) laws v b G st);
     }

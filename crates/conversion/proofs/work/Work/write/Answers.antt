@@ -25,5 +25,5 @@ returns g c =
           let b : ℕ → ℕ → Elem m = λ j. measure m laws t k r (map_of m laws t j (unit m laws)) in
           let same : (l j : ℕ) → l < d → j < d → rows m laws 1 (take (d + d) seq) l j ≡ hankel (field_of m laws) s l j = λ l j p q. ap (read m laws (take (d + d) seq)) {x = l * 1 + j} {y = l + j} (omega arith) ∙ front_reads m laws (d + d) (d + d) seq s (omega arith) (omega (arith, t.few)) whole (l + j) (omega arith) in
           row_over m laws d (rows m laws 1 (take (d + d) seq)) (hankel (field_of m laws) s) same c.args.self.now.connection (b i) i k (λ l. get_or out (i * d + l) 0)
-          (c.write_rows.ensures.rows laws (rows m laws 1 (take (d + d) seq)) b (c.take_table.ensures laws s whole free) (c.in_ok-right_sides.ensures.measured laws) i h);
+          (c.write_rows.ensures.rows laws (rows m laws 1 (take (d + d) seq)) b (c.take_table.ensures laws s whole free) (c.in_ok-sides.ensures.measured laws) i h);
     }
