@@ -1,5 +1,11 @@
--- What the answers to 24 and 25, put to words, say of the powers and the sequence that the words stand for.
-use Rattle.std.proofs.Common.{◌≡◌, ℕ, ◌+◌, ◌*◌, ◌<◌, List, length, Ok, Err, Result, arith}
+-- What the answers to 22, 24 and 25, put to words, say of the vector, the powers and the sequence that the words stand for.
+use Rattle.std.proofs.Common.{◌≡◌, ℕ, suc, ◌+◌, ◌*◌, ◌<◌, ◌≤◌, Bool, false, not, T, List, length, get_or, Some, None, position, Ok, Err, Result, sym, refl, subst, arith}
+use Rattle.std.specs.List.{position_or_len}
+use Rattle.std.proofs.lemmas.Bool.{not-true, not-false}
+use Rattle.std.proofs.lemmas.Grind.{common_steps}
+use Rattle.std.proofs.lemmas.List.Quantifiers.{position-Some}
+use Rattle.std.proofs.lemmas.List.Sums.{fails_before_first}
+use Rattle.runs.specs.Question.{each}
 use Rattle.std.specs.Result.{IsErrAnd, MatchResult}
 use Rattle.std.proofs.lemmas.Result.{err_from_is_err_and}
 use Rattle.field.specs.Meaning.{FieldMeaning, FieldLaws}
@@ -16,6 +22,27 @@ use Rattle.conversion.specs.Powers.{width, unit, power, measure, Vectors}
 use Rattle.conversion.specs.Asked.{ShapeFound, LengthFound}
 use Rattle.conversion.specs.Phases.{Half, Whole, ShapeAsked, RowsAsked}
 use Rattle.conversion.proofs.Along.{independent_along, degree_along}
+
+-- ---- the first word that is no element, and what question 22 asks
+
+module _ (m : FieldMeaning) (ws : List ℕ) where
+  abbrev outside : ℕ → Bool
+  outside w = not (m.elem w)
+
+  element : (i : ℕ) → outside (get_or ws i 0) ≡ false → T (m.elem (get_or ws i 0))
+  element i e = subst T (sym (not-false (m.elem (get_or ws i 0)) e)) tt
+
+  pub none_outside : position outside ws ≡ None → (i : ℕ) → i < length ws → T (m.elem (get_or ws i 0))
+  none_outside e i l =
+      let far : length ws ≤ position_or_len outside ws = grind (arith, common_steps) in
+      element i (fails_before_first outside ws i 0 (omega arith))
+
+  pub first_outside : (i : ℕ) → position outside ws ≡ Some i → (each 22 0 (length ws) (λ j. T (m.elem (get_or ws j 0)))).place (suc i)
+  first_outside i e =
+      let f = position-Some outside ws i 0 e in
+      (i, f.0, refl, λ t. subst T (not-true (m.elem (get_or ws i 0)) f.1) t, λ j l. element j (f.2 j l))
+
+-- ---- the answers to 24 and 25
 
 -- the fault of question 24 that the fault of an elimination is
 abbrev pub no_shape : EliminateFault → JobFault

@@ -1,6 +1,6 @@
 // The questions 20 to 25 of Convert, in their order. The last two are put to words that the powers
 // of a multiplication matrix have left, and work in the arrays of a conversion.
-ghost use Rattle.std.specs.Prelude.{◌≡◌, ℕ, suc, ◌+◌, ◌<◌, T, length, Some, None, slice_index};
+ghost use Rattle.std.specs.Prelude.{ℕ, ◌+◌};
 ghost use Rattle.field.specs.Meaning.{FieldLaws};
 ghost use Rattle.algebra.specs.Elements.{Elem};
 ghost use Rattle.polynomials.specs.Asked.{Asked};
@@ -13,14 +13,6 @@ use field::Field;
 use linear::elimination::{Echelon, EliminateFault, Family};
 use linear::recurrence::recurrence_length;
 use polynomials::JobFault;
-
-// The first of the words that is no element, from 1.
-fn first_no_element<F: Field>(field: &F, words: &[u32]) -> Option<usize>
-    ensures { elim result [ Some p ↦ ((i : ℕ) × (i < length words.now) × (p ≡ suc i) × (T ((F.Field.meaning field.now).elem (slice_index words.now i)) → ⊥) × ((j : ℕ) → j < i → T ((F.Field.meaning field.now).elem (slice_index words.now j)))) | None ↦ ((i : ℕ) → i < length words.now → T ((F.Field.meaning field.now).elem (slice_index words.now i))) ] }
-{
-    let i = words.iter().position(|w| !field.contains(*w))?;
-    Some(i + 1)
-}
 
 // 20 to 23, of a variable counted from 1.
 pub(crate) fn ask_vector<F: Field>(
@@ -38,8 +30,8 @@ pub(crate) fn ask_vector<F: Field>(
     if r.len() != d {
         return Err(JobFault::VectorLength);
     }
-    if let Some(place) = first_no_element(matrices.field, r) {
-        return Err(JobFault::VectorWord(place));
+    if let Some(i) = matrices.field.first_no_element(r) {
+        return Err(JobFault::VectorWord(i + 1));
     }
     if room < matrices.n * d {
         return Err(JobFault::ShortOutput);
