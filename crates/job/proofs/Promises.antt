@@ -1,5 +1,5 @@
 -- What follows from the answer of a call: the run stays whole, and the job is again as calls leave it.
-use Rattle.std.proofs.Common.{◌≡◌, ℕ, Some, None, List, [], ◌∷◌, length, IsErrAnd, IsOk, OnOk, OnErr, Ok, Err, Result, sym, refl, ap, ◌∙◌, subst, inl, arith}
+use Rattle.std.proofs.Common.{◌≡◌, ℕ, Some, None, List, [], ◌∷◌, IsErrAnd, OnErr, Ok, Err, Result, sym, refl, ap, ◌∙◌, subst, inl}
 use Rattle.field.specs.Meaning.{FieldMeaning, FieldLaws}
 use Rattle.order.specs.Laws.{Comparison, OrderLaws}
 use Rattle.runs.specs.Question.{Question, single, Refused}
@@ -70,17 +70,7 @@ open_refused t f shut e = inl (not_opened t shut, ap number_of e, refl, ap place
 pub is_refused : {A : Type 0} (qs : List Question) (r : Result A JobFault) (f : JobFault) → IsErrAnd r (λ e. e ≡ f) → Refused qs (number_of f) 0 (place_of f) → Asked 0 qs r
 is_refused {A} qs r f b h = subst (λ (x : Result A JobFault). Asked 0 qs x) (sym (is_error r f b)) h
 
--- a list without members
-pub no_members : {A : Type 0} (xs : List A) → length xs ≡ 0 → xs ≡ []
-no_members [] e = refl
-no_members (x ∷ xs) e = absurd (omega arith)
-
 -- what holds anyway holds where a call refuses
 pub on_error : {A P : Type 0} (r : Result A JobFault) → P → OnErr r P
 on_error (Ok a) h = tt
 on_error (Err f) h = h
-
--- what holds where a call is accepted, of one that is
-pub on_ok : {A E P : Type 0} (r : Result A E) → IsOk r → OnOk r P → P
-on_ok (Ok a) i h = h
-on_ok (Err f) i h = absurd (cc)

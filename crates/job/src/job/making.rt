@@ -1,4 +1,4 @@
-// The making of a job, Open, and what can be read of a job.
+// The making of a job, and what can be read of it.
 ghost use Rattle.std.specs.Prelude.{◌≡◌, ◌≤◌, [], length, Decides, slice_index_or};
 ghost use Rattle.field.specs.Meaning.{FieldLaws};
 ghost use Rattle.runs.specs.Job as def;

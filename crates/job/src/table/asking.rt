@@ -27,10 +27,10 @@ impl Table {
     pub(crate) fn ask_open(&self) -> Result<(), JobFault>
         ensures { elim result [ Ok _ ↦ (state self.now).stage ≡ def.opened | Err f ↦ ((state self.now).stage ≡ def.closed) × (f ≡ NotOpen) ] }
     {
-        match self.tables {
-            None => Ok(()),
-            Some(_) => Err(JobFault::NotOpen),
+        if self.tables.is_some() {
+            return Err(JobFault::NotOpen);
         }
+        Ok(())
     }
 
     // The tables, which a closed job has.

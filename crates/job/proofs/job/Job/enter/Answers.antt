@@ -4,8 +4,9 @@ use Rattle.polynomials.specs.Held.{held, terms_of}
 use Rattle.polynomials.proofs.Stored.{length_terms}
 use Rattle.runs.specs.Enter.{enter_asks}
 use Rattle.runs.specs.Call.{enter, accepted}
+use Rattle.tables.proofs.Answered.{on_ok}
 use Rattle.job.specs.State.{state}
-use Rattle.job.proofs.Promises.{on_ok, no_tables, is_refused, broken, changed}
+use Rattle.job.proofs.Promises.{no_tables, is_refused, broken, changed}
 use Rattle.job.proofs.job.Job.enter.Goals as goal
 
 pub returns-in_err-ask_enter : goal.returns-in_err-ask_enter
