@@ -1,4 +1,4 @@
-use Rattle.std.proofs.Common.{◌≡◌, ℕ, [], ◌∷◌, ◌++◌, length, sym, refl, subst}
+use Rattle.std.proofs.Common.{◌≡◌, ℕ, [], ◌∷◌, length, sym, refl, subst}
 use Rattle.runs.specs.Question.{single, AllYes, Refused}
 use Rattle.runs.specs.Job.{opened}
 use Rattle.runs.specs.Enter.{room_asks, terms_asks}
@@ -7,18 +7,7 @@ use Rattle.polynomials.specs.Faults.{number_of, place_of}
 use Rattle.polynomials.proofs.Answering.{asked_break, asked_after}
 use Rattle.polynomials.proofs.Stored.{length_terms}
 use Rattle.job.specs.State.{state}
-use Rattle.job.proofs.Promises.{open_refused}
 use Rattle.job.proofs.job.Job.ask_enter.Goals as goal
-
-pub returns-in_err-ask_open : goal.returns-in_err-ask_open
-returns-in_err-ask_open g c =
-    let m = g.F.Field.meaning c.args.self.now.field in
-    let cmp = g.O.Order.meaning c.args.self.now.order in
-    let t = c.args.self.now.table in
-    let p = terms_of c.args.terms.now in
-    let f = c.in_err-ask_open.field-0.0 in
-    let e = c.in_err-ask_open.ensures in
-    asked_break 0 [] (single 5 0 ((state t).stage ≡ opened) ∷ []) (room_asks 0 (state t) (length p) ++ terms_asks m cmp t.n 0 p) c.from_residual.result f c.from_residual.ensures.1 tt (open_refused t f e.0 e.1)
 
 pub returns-in_err-ask_room : goal.returns-in_err-ask_room
 returns-in_err-ask_room g c =
