@@ -1,6 +1,6 @@
 // Fill: enters the polynomials of a basis text into an empty job, one after the other, and takes them
 // out again where one is refused. Lines are read where they stand; one polynomial's terms are held.
-ghost use Rattle.std.specs.Prelude.{◌≡◌, ◌≤◌, length, take, Ok, Err};
+ghost use Rattle.std.specs.Prelude.{◌≡◌, ◌≤◌, length, take, IfOk};
 ghost use Rattle.runs.specs.Job.{opened};
 ghost use Rattle.runs.specs.Call as call;
 ghost use Rattle.runs.specs.Writing.{basis_text, field_code, order_code};
@@ -52,7 +52,7 @@ fn fill_polynomials<F: Field, O: Order>(
     job: &mut Job<F, O>,
     bytes: &[u8],
     place: Place,
-    count: usize,
+    count: u32,
     terms: &mut [Term; Polynomials::MOST_TERMS],
 ) -> Result<Place, TextFault>
     requires inside { place.at ≤ length bytes.now }
@@ -61,6 +61,7 @@ fn fill_polynomials<F: Field, O: Order>(
     ensures same_field_and_order { (job.new.field ≡ job.old.field) × (job.new.order ≡ job.old.order) }
 {
     let mut here = place;
+    // Over no items: the polynomials are only in the text, each where the one before ends.
     for _i in 0..count {
         here = fill_polynomial(job, bytes, here, terms)?;
     }
@@ -72,7 +73,7 @@ fn fill_polynomials<F: Field, O: Order>(
 pub fn fill<F: Field, O: Order>(job: &mut Job<F, O>, bytes: &[u8]) -> Result<usize, TextFault>
     ensures filled { Filled (F.Field.meaning job.old.field) (O.Order.meaning job.old.order) bytes.now (state job.old.table) (state job.new.table) result }
     ensures promised { Promised (F.Field.meaning job.old.field) (O.Order.meaning job.old.order) job.old.table (call.fill bytes.now) (answer_of result) job.new.table }
-    ensures written_again { elim result [ Ok size ↦ take size bytes.now ≡ basis_text (field_code bytes.now) (order_code bytes.now) (state job.new.table).n (state job.new.table).polynomials | Err _ ↦ Unit {0} ] }
+    ensures written_again { IfOk result (λ size. take size bytes.now ≡ basis_text (field_code bytes.now) (order_code bytes.now) (state job.new.table).n (state job.new.table).polynomials) }
     ensures same_field_and_order { (job.new.field ≡ job.old.field) × (job.new.order ≡ job.old.order) }
 {
     if !job.is_new() {
@@ -84,7 +85,7 @@ pub fn fill<F: Field, O: Order>(job: &mut Job<F, O>, bytes: &[u8]) -> Result<usi
         return Err(TextFault::OtherVariables);
     }
     let mut terms = [NO_TERM; Polynomials::MOST_TERMS];
-    match fill_polynomials(job, bytes, AFTER_HEADER, count as usize, &mut terms) {
+    match fill_polynomials(job, bytes, AFTER_HEADER, count, &mut terms) {
         Ok(end) => Ok(end.at),
         Err(fault) => {
             job.clear();

@@ -1,6 +1,6 @@
 // Write: the basis text of a job's polynomials. Room for the whole text is asked for first, so that
 // where there is none nothing is written.
-ghost use Rattle.std.specs.Prelude.{◌≡◌, ℕ, suc, ◌+◌, ◌≤◌, length, take, Ok, Err};
+ghost use Rattle.std.specs.Prelude.{◌≡◌, ℕ, suc, ◌+◌, ◌≤◌, length, take, IfOk, OnOk};
 ghost use Rattle.std.specs.List.{flat_map, AllByRecursion};
 ghost use Rattle.field.specs.Meaning.{FieldLaws};
 ghost use Rattle.column.specs.Column.{Word};
@@ -126,7 +126,7 @@ fn write_text(
 ) -> Result<usize, JobFault>
     requires { n ≤ variables }
     ensures wrote { Wrote ShortOutput (basis_text field_code order_code n (held polynomials.now)) out.old out.new result }
-    ensures fit { elim result [ Ok _ ↦ AllWords (held polynomials.now) | Err _ ↦ Unit {0} ] }
+    ensures fit { OnOk result (AllWords (held polynomials.now)) }
 {
     if out.len() < text_length(polynomials, n) {
         return Err(JobFault::ShortOutput);
@@ -146,7 +146,7 @@ pub fn write<F: Field, O: Order>(
     out: &mut [u8],
 ) -> Result<usize, TextFault>
     ensures wrote { Wrote (fault.Job ShortOutput 0) (basis_text field_code order_code (state job.now.table).n (state job.now.table).polynomials) out.old out.new result }
-    ensures reads_back { elim result [ Ok size ↦ ((laws : FieldLaws (F.Field.meaning job.now.field)) → Kept (F.Field.meaning job.now.field) laws (O.Order.meaning job.now.order) job.now.table → ReadsBack (F.Field.meaning job.now.field) laws (O.Order.meaning job.now.order) (state job.now.table) (take size out.new) size) | Err _ ↦ Unit {0} ] }
+    ensures reads_back { IfOk result (λ size. (laws : FieldLaws (F.Field.meaning job.now.field)) → Kept (F.Field.meaning job.now.field) laws (O.Order.meaning job.now.order) job.now.table → ReadsBack (F.Field.meaning job.now.field) laws (O.Order.meaning job.now.order) (state job.now.table) (take size out.new) size) }
 {
     let n = job.variables();
     let size = write_text(job.polynomials(), n, field_code, order_code, out)?;

@@ -6,6 +6,7 @@ use crate::TextFault;
 
 const TEXT_LAYER: u32 = 3;
 
+// Four matches on one fault: each is another table of numbers, and none follows from another.
 impl TextFault {
     pub fn number(self) -> u32
         ensures { result ≡ number_of self }
