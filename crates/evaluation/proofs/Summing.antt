@@ -1,13 +1,13 @@
 -- The values of polynomials that stand in a text: one turn of the walks over terms and over polynomials.
-use Rattle.std.proofs.Common.{◌≡◌, ℕ, zero, suc, ◌+◌, ◌*◌, ◌<◌, ◌≤◌, Bool, true, cond, leb, List, [], ◌∷◌, ◌++◌, map, length, get_or, fold, sym, refl, ap, ◌∙◌, ap₂, zero-add, arith, length-append}
+use Rattle.std.proofs.Common.{◌≡◌, ℕ, zero, suc, ◌+◌, ◌*◌, ◌<◌, ◌≤◌, List, [], ◌∷◌, ◌++◌, map, length, get_or, fold, unwrap_or, sym, refl, ap, ◌∙◌, ap₂, zero-add, arith, length-append}
 use mathlib.Core.List.{map-append}
 use Rattle.std.proofs.lemmas.List.{flat_map_more}
-use Rattle.std.proofs.lemmas.Bool.{le-leb}
 use Rattle.field.specs.Meaning.{FieldMeaning}
 use Rattle.column.specs.Line.{line}
 use Rattle.column.specs.Place.{put, placed}
+use Rattle.column.specs.Place as at
 use Rattle.column.proofs.Lines.{line_length_is}
-use Rattle.column.proofs.Places.{put_none, put_put}
+use Rattle.column.proofs.Places.{put_none, put_put, with_room}
 use Rattle.evaluation.specs.Answer.{values_at, value_lines}
 use Rattle.evaluation.specs.Evaluation.{Term, term_value, value}
 use Rattle.evaluation.specs.Basis.{words, next, terms, after_lines, term_count, polynomial, after, polynomials, after_all}
@@ -80,20 +80,21 @@ module _ (m : FieldMeaning) (n : ℕ) (x : List ℕ) (bs start : List ℕ) where
       ∙ ap value_lines (map-append (value m n x) (polynomials n i bs) (polynomial n (after_all n i bs) ∷ []))
       ∙ sym (flat_map_more (λ (v : ℕ). line (v ∷ [])) [] (values_at m n x i bs) (value m n x (polynomial n (after_all n i bs))))
 
-  pub listed_more : (i : ℕ) (here next_here out new : List ℕ) (end v : ℕ) → v < 4294967296 → end + 12 ≤ length out → length out ≡ length start
-      → v ≡ value m n x (polynomial n here) → next_here ≡ after n here → new ≡ placed out end (line (v ∷ []))
-      → Listed i here out end → Listed (i + 1) next_here new (end + 12)
-  listed_more i here next_here out new end v fits room same ev er en l =
+  pub listed_more : (i : ℕ) (here next_here out new : List ℕ) (end next v : ℕ) → v < 4294967296 → end + 12 ≤ length out → length out ≡ length start
+      → v ≡ value m n x (polynomial n here) → next_here ≡ after n here → next ≡ unwrap_or (at.after out end (line (v ∷ []))) end → new ≡ placed out end (line (v ∷ []))
+      → Listed i here out end → Listed (i + 1) next_here new next
+  listed_more i here next_here out new end next v fits room same ev er eo en l =
       let w : line (v ∷ []) ≡ line (value m n x (polynomial n (after_all n i bs)) ∷ []) = ap (λ (u : ℕ). line (u ∷ [])) (ev ∙ ap (λ (b : List ℕ). value m n x (polynomial n b)) l.rest) in
       let size = one_line v fits in
-      let yes : leb (end + length (line (v ∷ []))) (length out) ≡ true = le-leb _ _ (omega arith) in
+      let p = with_room out (line (v ∷ [])) end 12 size (omega arith) in
+      let further : next ≡ end + 12 = eo ∙ sym (ap (λ o. unwrap_or o end) p.0) in
       let longer : lines_of (i + 1) ≡ lines_of i ++ line (v ∷ []) = lines_more i ∙ ap (λ (b : List ℕ). lines_of i ++ b) (sym w) in
       record {
         rest = er ∙ ap (after n) l.rest ∙ sym (after_all_more n i bs);
         bytes =
-            en ∙ ap (λ (t : Bool). cond t (put out end (line (v ∷ []))) out) yes
+            en ∙ sym p.1
             ∙ ap₂ (λ (o : List ℕ) (e : ℕ). put o e (line (v ∷ []))) l.bytes (l.end_is ∙ sym (zero-add (length (lines_of i))))
             ∙ put_put start (lines_of i) (line (v ∷ [])) 0 (omega arith) ∙ ap (put start 0) (sym longer);
-        end_is = ap₂ (λ (a b : ℕ). a + b) l.end_is (sym size) ∙ sym (ap length longer ∙ length-append (lines_of i) (line (v ∷ [])));
-        count = omega (arith, l.count);
+        end_is = further ∙ ap₂ (λ (a b : ℕ). a + b) l.end_is (sym size) ∙ sym (ap length longer ∙ length-append (lines_of i) (line (v ∷ [])));
+        count = omega (arith, l.count, further);
       }

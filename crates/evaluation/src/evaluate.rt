@@ -21,9 +21,10 @@ pub(crate) fn term_at<F: Field>(field: &F, point: &[u32], term: &[u32; 5]) -> u3
     requires { length point.now ≤ 4 }
     ensures { result ≡ term_value (F.Field.meaning field.now) (length point.now) point.now term.now }
 {
-    let mut product = term[0];
-    for (i, x) in point.iter().enumerate() {
-        product = field.mul(product, raised(field, *x, term[i + 1]));
-    }
-    product
+    point.iter().zip(&term[1..]).fold(
+        term[0],
+        |product, (x, e)| -> u32
+            ensures { result ≡ (F.Field.meaning field.entry.now).mul product (power (F.Field.meaning field.entry.now) x.entry.now e.entry.now) }
+        { field.mul(product, raised(field, *x, *e)) },
+    )
 }

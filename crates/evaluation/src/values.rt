@@ -54,8 +54,8 @@ pub(crate) fn write_values<F: Field>(
             },
             point,
         );
-        let _ = write_line(out, end, &[value]);
-        end += 12;
+        // There is room, so that the place after the line is always answered.
+        end = write_line(out, end, &[value]).unwrap_or(end);
         lines = first.after(left, n + 1);
     }
     end

@@ -1,4 +1,4 @@
-use Rattle.std.proofs.Common.{◌≡◌, ℕ, length, drop, refl, ◌∙◌, subst, arith, rules}
+use Rattle.std.proofs.Common.{◌≡◌, ℕ, length, drop, Option, unwrap_or, refl, ap, ◌∙◌, subst, arith, rules}
 use Rattle.evaluation.proofs.Summing.{Listed, listed_none, listed_more, of_polynomial, after_polynomial}
 use Rattle.evaluation.proofs.values.write_values.Goals as goal
 
@@ -18,8 +18,8 @@ loop-i-preserved g c =
     let rest = after_polynomial m (length x) x here first _ c.first.result c.first.ensures c.after-first.ensures.rest c.after-lines.ensures.rest in
     record {
       same_length = c.write_line.auto.out ∙ c.loop-i.invariant.same_length;
-      listed = listed_more m (length x) x (drop c.args.basis.at c.args.basis.text.now) c.args.out.now c.loop-i._i here _ c.loop-i.out _ c.loop-i.end _ (search rules)
-          (omega (arith, c.loop-i.invariant.listed.count)) c.loop-i.invariant.same_length v rest c.write_line.ensures.rest_unchanged c.loop-i.invariant.listed;
+      listed = listed_more m (length x) x (drop c.args.basis.at c.args.basis.text.now) c.args.out.now c.loop-i._i here _ c.loop-i.out _ c.loop-i.end _ _ (search rules)
+          (omega (arith, c.loop-i.invariant.listed.count)) c.loop-i.invariant.same_length v rest (c.unwrap_or-end.ensures ∙ ap (λ (o : Option ℕ). unwrap_or o c.loop-i.end) c.write_line.ensures.place_after) c.write_line.ensures.rest_unchanged c.loop-i.invariant.listed;
     }
 
 pub returns : goal.returns
