@@ -1,5 +1,5 @@
 // Columns and lines by example: what reads, what is refused, and what is written where.
-use column::{LineFault, Place, read_column, read_line, write_column, write_line};
+use column::{LineFault, Place, Reader, read_column, read_line, write_column, write_line};
 
 #[test]
 fn columns(rt: HostRuntime) {
@@ -52,14 +52,11 @@ fn lines(rt: HostRuntime) {
 fn places(rt: HostRuntime) -> Result<(), LineFault> {
     let text = b"          7          1\n         07\n";
     let mut words = [0; 2];
-    let second = Place::START.read_line(text, &mut words)?;
+    let second = Reader::new(text).read(&mut words)?;
     assert_eq!(rt; words, [7, 1]);
-    assert_eq!(rt; second, Place { at: 23, line: 2 });
+    assert_eq!(rt; second.place, Place { at: 23, line: 2 });
     let mut word = [5];
-    assert_eq!(rt;
-        second.read_line(text, &mut word),
-        Err(LineFault::NotANumber)
-    );
+    assert_eq!(rt; second.read(&mut word).err(), Some(LineFault::NotANumber));
     assert_eq!(rt; word, [5]);
     Ok(())
 }

@@ -1,9 +1,10 @@
 -- From the answers to its questions to the outcome of a text.
-use Rattle.std.proofs.Common.{◌≡◌, ℕ, ◌+◌, ◌<◌, ◌≤◌, Bool, true, false, cond, ◌&&◌, eqb, leb, List, [], ◌∷◌, ◌++◌, length, get_or, take, drop, IfSome, Some, None, Ok, Err, Option, Result, sym, refl, ap, ◌∙◌, subst, ap₂, zero-add, arith, drop-cons, take-append-drop}
+use Rattle.std.proofs.Common.{◌≡◌, ℕ, ◌+◌, ◌<◌, ◌≤◌, Bool, true, false, cond, ◌&&◌, eqb, leb, List, [], ◌∷◌, ◌++◌, length, get_or, take, drop, IfSome, IfOk, Some, None, Ok, Err, Option, Result, sym, refl, ap, ◌∙◌, subst, ap₂, zero-add, arith, drop-cons, take-append-drop}
 use Rattle.std.specs.Bool.{then_some}
 use Rattle.std.specs.Result as results
 use Rattle.std.proofs.lemmas.List.{append_assoc, drop_all, drop-append-le, length-take-le}
 use Rattle.std.proofs.lemmas.Bool.{eq-eqb, ne_eqb, le-leb, lt-leb}
+use Rattle.std.proofs.lemmas.Result.{IfOk-at_ok}
 use Rattle.column.specs.declared.line.LineFault.{LineFault}
 use Rattle.column.specs.Line.{line, line_length, reading_line, after_line, taken_words}
 use Rattle.column.specs.Place.{put, placed}
@@ -15,7 +16,8 @@ use Rattle.field.specs.Residues.{residues}
 use Rattle.field.specs.Faults.{residue_of}
 use Rattle.evaluation.specs.declared.fault.ProbeFault.{ProbeFault}
 use Rattle.evaluation.specs.declared.fault.ProbeFault.TheVariants.{TooLong, Line, Field, OrderCode, Variables, Point, NotOver}
-use Rattle.column.specs.declared.place.Place.{Place}
+use Rattle.column.specs.Walk.{left, byte_after}
+use Rattle.column.specs.declared.reader.Reader.{Reader}
 use Rattle.evaluation.specs.Basis.{words, next, after_all, lines_all}
 use Rattle.evaluation.specs.Answer.{Refusal, then, at_place, unless, first_no, asks_line, asks_polynomials, asks_point, asks_over, values_at, outcome_over, one_to_four, outcome_with, outcome_by, outcome_from, outcome, value_lines, printed, answer}
 use Rattle.evaluation.specs.Faults.{report_of}
@@ -37,9 +39,9 @@ over_none text i h = ap asks_over (drop_all i text h)
 over_some : (text : List ℕ) (i : ℕ) → i < length text → asks_over (drop i text) ≡ Some NotOver
 over_some text i h = ap asks_over (drop-cons text i 0 h)
 
-module _ (text ws : List ℕ) (m : FieldMeaning) (n k : ℕ) (first end last : Place) (at : first.at ≡ 45) (line : first.line ≡ 2) where
+module _ (ws : List ℕ) (m : FieldMeaning) (n k : ℕ) (first end last : Reader) (at : first.place.at ≡ 45) (line : first.place.line ≡ 2) where
   abbrev bs : List ℕ
-  bs = next 4 text
+  bs = next 4 first.text.now
 
   abbrev asked : Refusal → Refusal → Refusal → List ℕ → Result (List ℕ) ProbeFault
   asked a b c x = unless (then a (then b c)) (values_at m n x k bs)
@@ -50,52 +52,52 @@ module _ (text ws : List ℕ) (m : FieldMeaning) (n k : ℕ) (first end last : P
   basis_asked a b c ea eb ec = ap₂ (λ (x y : Refusal). unless (then x y) (values_at m n (words n (after_all n k bs)) k bs)) ea (ap₂ then eb ec)
 
   abbrev start : List ℕ
-  start = drop first.at text
+  start = left first
 
   begins : start ≡ bs
   unfolding next
-  begins = ap (λ (j : ℕ). drop j text) at
+  begins = ap (λ (j : ℕ). drop j first.text.now) at
 
-  first_asked : (a : Refusal) → asks_polynomials m n k start first.line ≡ a → asks_polynomials m n k bs 2 ≡ a
+  first_asked : (a : Refusal) → asks_polynomials m n k start first.place.line ≡ a → asks_polynomials m n k bs 2 ≡ a
   first_asked a h = ap₂ (asks_polynomials m n k) (sym begins) (sym line) ∙ h
 
-  pub basis_refused : (e : ProbeFault) → asks_polynomials m n k start first.line ≡ Some e → outcome_over m n k bs ≡ Err e
+  pub basis_refused : (e : ProbeFault) → asks_polynomials m n k start first.place.line ≡ Some e → outcome_over m n k bs ≡ Err e
   basis_refused e h = basis_asked (Some e) _ _ (first_asked (Some e) h) refl refl
 
-  module _ (p : PolynomialsPassed text m n k first end) where
-    here : after_all n k bs ≡ drop end.at text
+  module _ (p : PolynomialsPassed m n k first end) where
+    here : after_all n k bs ≡ left end
     here = sym (p.rest ∙ ap (after_all n k) begins)
 
-    count : 2 + lines_all n k bs ≡ end.line
+    count : 2 + lines_all n k bs ≡ end.place.line
     count = sym (p.line ∙ ap₂ (λ (l : ℕ) (xs : List ℕ). l + lines_all n k xs) line begins)
 
-    point_asked : (b : Refusal) → asks_point m n (drop end.at text) end.line ≡ b → asks_point m n (after_all n k bs) (2 + lines_all n k bs) ≡ b
+    point_asked : (b : Refusal) → asks_point m n (left end) end.place.line ≡ b → asks_point m n (after_all n k bs) (2 + lines_all n k bs) ≡ b
     point_asked b e = ap₂ (asks_point m n) here count ∙ e
 
-    from_point : (b c : Refusal) → asks_point m n (drop end.at text) end.line ≡ b → asks_over (next n (drop end.at text)) ≡ c
-        → outcome_over m n k bs ≡ asked None b c (words n (drop end.at text))
+    from_point : (b c : Refusal) → asks_point m n (left end) end.place.line ≡ b → asks_over (next n (left end)) ≡ c
+        → outcome_over m n k bs ≡ asked None b c (words n (left end))
     from_point b c eb ec =
         basis_asked None b c (first_asked None p.asked) (point_asked b eb) (ap (λ (xs : List ℕ). asks_over (next n xs)) here ∙ ec)
         ∙ ap (λ (xs : List ℕ). asked None b c (words n xs)) here
 
-    pub point_unread : (e : ProbeFault) → asks_line n (drop end.at text) end.line ≡ Some e → outcome_over m n k bs ≡ Err e
+    pub point_unread : (e : ProbeFault) → asks_line n (left end) end.place.line ≡ Some e → outcome_over m n k bs ≡ Err e
     unfolding asks_point
-    point_unread e h = from_point (Some e) _ (ap (λ (x : Refusal). then x (at_place (Point end.line) (first_no m.elem (words n (drop end.at text))))) h) refl
+    point_unread e h = from_point (Some e) _ (ap (λ (x : Refusal). then x (at_place (Point end.place.line) (first_no m.elem (words n (left end))))) h) refl
 
-    module _ (l : LinePassed text n end last ws) where
-      words-asked : (o : Option ℕ) → o ≡ first_no m.elem ws → asks_point m n (drop end.at text) end.line ≡ at_place (Point end.line) o
+    module _ (l : LinePassed n end last ws) where
+      words-asked : (o : Option ℕ) → o ≡ first_no m.elem ws → asks_point m n (left end) end.place.line ≡ at_place (Point end.place.line) o
       unfolding asks_point
-      words-asked o h = ap₂ (λ (x : Refusal) (y : Option ℕ). then x (at_place (Point end.line) y)) l.asked (sym (h ∙ ap (first_no m.elem) l.taken))
+      words-asked o h = ap₂ (λ (x : Refusal) (y : Option ℕ). then x (at_place (Point end.place.line) y)) l.asked (sym (h ∙ ap (first_no m.elem) l.taken))
 
-      pub word-refused : (w : ℕ) → Some w ≡ first_no m.elem ws → outcome_over m n k bs ≡ Err (Point end.line w)
+      pub word-refused : (w : ℕ) → Some w ≡ first_no m.elem ws → outcome_over m n k bs ≡ Err (Point end.place.line w)
       word-refused w h = from_point _ _ (words-asked (Some w) h) refl
 
-      pub more-follows : None ≡ first_no m.elem ws → last.at < length text → outcome_over m n k bs ≡ Err NotOver
-      more-follows h i = from_point None (Some NotOver) (words-asked None h) (ap asks_over (sym l.rest) ∙ over_some text last.at i)
+      pub more-follows : None ≡ first_no m.elem ws → last.place.at < length last.text.now → outcome_over m n k bs ≡ Err NotOver
+      more-follows h i = from_point None (Some NotOver) (words-asked None h) (ap asks_over (sym l.rest) ∙ over_some last.text.now last.place.at i)
 
-      pub all-answered : None ≡ first_no m.elem ws → length text ≤ last.at → outcome_over m n k bs ≡ Ok (values_at m n ws k start)
+      pub all-answered : None ≡ first_no m.elem ws → length last.text.now ≤ last.place.at → outcome_over m n k bs ≡ Ok (values_at m n ws k start)
       all-answered h i =
-          from_point None None (words-asked None h) (ap asks_over (sym l.rest) ∙ over_none text last.at i)
+          from_point None None (words-asked None h) (ap asks_over (sym l.rest) ∙ over_none last.text.now last.place.at i)
           ∙ ap₂ (λ (x y : List ℕ). Ok (values_at m n x k y)) (sym l.taken) (sym begins)
 
 -- ---- the header
@@ -152,16 +154,16 @@ module _ (text : List ℕ) where
   unfolding outcome
   text_asked h = cond_at_true (leb (length text) 8192) _ _ (le-leb (length text) 8192 h)
 
-  pub header_unread : length text ≤ 8192 → (f : LineFault) → Err f ≡ after_line text 0 4 → outcome text ≡ Err (Line f 1)
-  header_unread h f e = text_asked h ∙ by_reading (reading_line 4 text) e
+  header_no : length text ≤ 8192 → (f : LineFault) → Err f ≡ after_line text 0 4 → outcome text ≡ Err (Line f 1)
+  header_no h f e = text_asked h ∙ by_reading (reading_line 4 text) e
     where
       by_reading : (r : Result (List ℕ) LineFault) → Err f ≡ results.result_map_both (λ _. 0 + line_length 4) (λ f. f) r → outcome_from r (next 4 text) ≡ Err (Line f 1)
       by_reading (Ok ws) e = absurd (let z : ◌≡◌ {A = ℕ} 0 1 = cc in omega arith)
       by_reading (Err g) e = let s : f ≡ g = cc in ap (λ (x : LineFault). Err (Line x 1)) (sym s)
 
-  pub header_read : length text ≤ 8192 → (q : ℕ) (old new : List ℕ) → Ok q ≡ after_line text 0 4 → length old ≡ 4 → new ≡ taken_words text 0 old
+  header_yes : length text ≤ 8192 → (q : ℕ) (old new : List ℕ) → Ok q ≡ after_line text 0 4 → length old ≡ 4 → new ≡ taken_words text 0 old
       → outcome_by (get_or new 0 0) (get_or new 1 0) (get_or new 2 0) (get_or new 3 0) (next 4 text) ≡ outcome text
-  header_read h q old new e l t = by_reading (reading_line 4 text) refl e (t ∙ ap (λ (j : ℕ). results.result_unwrap_or (reading_line j text) old) l) ∙ sym (text_asked h)
+  header_yes h q old new e l t = by_reading (reading_line 4 text) refl e (t ∙ ap (λ (j : ℕ). results.result_unwrap_or (reading_line j text) old) l) ∙ sym (text_asked h)
     where
       by_reading : (r : Result (List ℕ) LineFault) → reading_line 4 text ≡ r → Ok q ≡ results.result_map_both (λ _. 0 + line_length 4) (λ f. f) (reading_line 4 text) → new ≡ results.result_unwrap_or (reading_line 4 text) old
           → outcome_by (get_or new 0 0) (get_or new 1 0) (get_or new 2 0) (get_or new 3 0) (next 4 text) ≡ outcome_from (reading_line 4 text) (next 4 text)
@@ -169,6 +171,20 @@ module _ (text : List ℕ) where
           let s : new ≡ ws = t ∙ ap (λ (r : Result (List ℕ) LineFault). results.result_unwrap_or r old) er in
           ap (λ (xs : List ℕ). outcome_by (get_or xs 0 0) (get_or xs 1 0) (get_or xs 2 0) (get_or xs 3 0) (next 4 text)) s ∙ sym (ap (λ (r : Result (List ℕ) LineFault). outcome_from r (next 4 text)) er)
       by_reading (Err f) er e t = absurd (let z : ◌≡◌ {A = ℕ} 0 1 = cc in omega arith)
+
+  -- from what reading the line promises of a reader at the first
+  module _ (p : Reader) (same : p.text.now ≡ text) (first : p.place.at ≡ 0) (h : length text ≤ 8192) (r : Result Reader LineFault) (e : byte_after r ≡ after_line p.text.now p.place.at 4) where
+    at_first : byte_after r ≡ after_line text 0 4
+    at_first = e ∙ ap₂ (λ (t : List ℕ) (at : ℕ). after_line t at 4) same first
+
+    pub header_unread : (f : LineFault) → r ≡ Err f → outcome text ≡ Err (Line f 1)
+    header_unread f is = header_no h f (sym (ap byte_after is) ∙ at_first)
+
+    pub header_read : (q : Reader) (new : List ℕ) → r ≡ Ok q → IfOk r (λ q. q.text.now ≡ p.text.now) → new ≡ taken_words p.text.now p.place.at four
+        → outcome_by (get_or new 0 0) (get_or new 1 0) (get_or new 2 0) (get_or new 3 0) (next 4 q.text.now) ≡ outcome text
+    header_read q new is there t =
+        ap (λ (bs : List ℕ). outcome_by (get_or new 0 0) (get_or new 1 0) (get_or new 2 0) (get_or new 3 0) (next 4 bs)) (IfOk-at_ok (λ (q : Reader). q.text.now ≡ p.text.now) is there ∙ same)
+        ∙ header_yes h q.place.at four new (sym (ap byte_after is) ∙ at_first) refl (t ∙ ap₂ (λ (t : List ℕ) (at : ℕ). taken_words t at four) same first)
 
 -- ---- what is printed
 

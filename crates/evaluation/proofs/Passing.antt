@@ -2,7 +2,7 @@
 use Rattle.std.proofs.Common.{◌≡◌, ℕ, suc, ◌+◌, ◌-◌, ◌<◌, ◌≤◌, List, length, drop, replicate, Some, Ok, Err, Result, sym, refl, ap, ◌∙◌, subst, ap₂, arith, drop-drop}
 use Rattle.std.specs.Result as results
 use Rattle.std.specs.Result.{MatchResult, IsErrAnd}
-use Rattle.column.specs.Walk.{byte_after}
+use Rattle.column.specs.Walk.{left, byte_after}
 use Rattle.column.specs.declared.line.LineFault.{LineFault}
 use Rattle.column.specs.Line.{line_length, reading_line, after_line, taken_words}
 use Rattle.evaluation.specs.Basis.{words, next, after_lines}
@@ -10,7 +10,7 @@ use Rattle.evaluation.specs.Answer.{unread, asks_line, asks_lines, then}
 use Rattle.evaluation.specs.Steps.{LinePassed, LinesPassed, Walked}
 use Rattle.evaluation.specs.declared.fault.ProbeFault.{ProbeFault}
 use Rattle.evaluation.specs.declared.fault.ProbeFault.TheVariants.{Line}
-use Rattle.column.specs.declared.place.Place.{Place}
+use Rattle.column.specs.declared.reader.Reader.{Reader}
 
 -- ---- what a mapped error tells of the answer before
 
@@ -24,88 +24,78 @@ mapped_err (Err f) s d Q e h = (f, refl, subst (λ t. IsErrAnd t (Q f)) e h)
 
 -- ---- a line that reads
 
-module _ (text old new : List ℕ) (p : Place) where
-  abbrev bs : List ℕ
-  bs = drop p.at text
-
-  by_reading : (r : Result (List ℕ) LineFault) → reading_line (length old) bs ≡ r → (q : Place)
-      → Ok q.at ≡ results.result_map_both (λ _. p.at + line_length (length old)) (λ f. f) r → new ≡ results.result_unwrap_or r old
-      → q.line ≡ p.line + 1 → LinePassed text (length old) p q new
+module _ (old new : List ℕ) (p : Reader) where
+  by_reading : (r : Result (List ℕ) LineFault) → reading_line (length old) (left p) ≡ r → (q : Reader) → q.text.now ≡ p.text.now
+      → Ok q.place.at ≡ results.result_map_both (λ _. p.place.at + line_length (length old)) (λ f. f) r → new ≡ results.result_unwrap_or r old
+      → q.place.line ≡ p.place.line + 1 → LinePassed (length old) p q new
   unfolding words next
-  by_reading (Ok ws) e q h k el =
-      let sum : q.at ≡ p.at + line_length (length old) = cc in
+  by_reading (Ok ws) e q same h k el =
+      let sum : q.place.at ≡ p.place.at + line_length (length old) = cc in
       record {
-        asked = ap (λ (r : Result (List ℕ) LineFault). unread r p.line) e;
-        rest = ap (λ x. drop x text) sum ∙ sym (drop-drop (line_length (length old)) p.at text);
+        asked = ap (λ (r : Result (List ℕ) LineFault). unread r p.place.line) e;
+        rest = ap₂ drop sum same ∙ sym (drop-drop (line_length (length old)) p.place.at p.text.now);
         line = el;
         further = sym sum;
         taken = k ∙ sym (ap (λ (r : Result (List ℕ) LineFault). results.result_unwrap_or r (replicate (length old) 0)) e);
       }
-  by_reading (Err f) e q h k el = absurd (let z : ◌≡◌ {A = ℕ} 0 1 = cc in omega arith)
+  by_reading (Err f) e q same h k el = absurd (let z : ◌≡◌ {A = ℕ} 0 1 = cc in omega arith)
 
   -- from what reading a line promises
-  pub line_passed : (r : Result Place LineFault) (q : Place) → r ≡ Ok q → byte_after r ≡ after_line text p.at (length old) → new ≡ taken_words text p.at old
-      → q.line ≡ p.line + 1 → LinePassed text (length old) p q new
-  line_passed r q e h k el = by_reading (reading_line (length old) bs) refl q (sym (ap byte_after e) ∙ h) k el
+  pub line_passed : (r : Result Reader LineFault) (q : Reader) → r ≡ Ok q → q.text.now ≡ p.text.now → byte_after r ≡ after_line p.text.now p.place.at (length old) → new ≡ taken_words p.text.now p.place.at old
+      → q.place.line ≡ p.place.line + 1 → LinePassed (length old) p q new
+  line_passed r q e same h k el = by_reading (reading_line (length old) (left p)) refl q same (sym (ap byte_after e) ∙ h) k el
 
   -- and where it does not read, its fault
-  pub line_unread : (r : Result Place LineFault) (f : LineFault) → r ≡ Err f → byte_after r ≡ after_line text p.at (length old) → asks_line (length old) bs p.line ≡ Some (Line f p.line)
-  line_unread r f e h = by_fault (reading_line (length old) bs) refl (sym (ap byte_after e) ∙ h)
+  pub line_unread : (r : Result Reader LineFault) (f : LineFault) → r ≡ Err f → byte_after r ≡ after_line p.text.now p.place.at (length old) → asks_line (length old) (left p) p.place.line ≡ Some (Line f p.place.line)
+  line_unread r f e h = by_fault (reading_line (length old) (left p)) refl (sym (ap byte_after e) ∙ h)
     where
-      by_fault : (r : Result (List ℕ) LineFault) → reading_line (length old) bs ≡ r → Err f ≡ results.result_map_both (λ _. p.at + line_length (length old)) (λ f. f) r → asks_line (length old) bs p.line ≡ Some (Line f p.line)
+      by_fault : (r : Result (List ℕ) LineFault) → reading_line (length old) (left p) ≡ r → Err f ≡ results.result_map_both (λ _. p.place.at + line_length (length old)) (λ f. f) r → asks_line (length old) (left p) p.place.line ≡ Some (Line f p.place.line)
       by_fault (Ok ws) e k = absurd (let z : ◌≡◌ {A = ℕ} 0 1 = cc in omega arith)
-      by_fault (Err g) e k = let s : f ≡ g = cc in ap (λ (r : Result (List ℕ) LineFault). unread r p.line) e ∙ ap (λ (x : LineFault). Some (Line x p.line)) (sym s)
-
--- the text and the number of columns known by other names
-pub line_moved : (text text' : List ℕ) (c c' : ℕ) (p q : Place) (ws : List ℕ) → text' ≡ text → c' ≡ c → LinePassed text' c' p q ws → LinePassed text c p q ws
-line_moved text text' c c' p q ws et ec l = subst (λ (t : List ℕ). LinePassed t c p q ws) et (subst (λ (x : ℕ). LinePassed text' x p q ws) ec l)
-
-pub asked_moved : (text text' : List ℕ) (c c' : ℕ) (p : Place) (e : ProbeFault) → text' ≡ text → c' ≡ c → asks_line c' (drop p.at text') p.line ≡ Some e → asks_line c (drop p.at text) p.line ≡ Some e
-asked_moved text text' c c' p e et ec h = ap₂ (λ (x : ℕ) (t : List ℕ). asks_line x (drop p.at t) p.line) (sym ec) (sym et) ∙ h
+      by_fault (Err g) e k = let s : f ≡ g = cc in ap (λ (r : Result (List ℕ) LineFault). unread r p.place.line) e ∙ ap (λ (x : LineFault). Some (Line x p.place.line)) (sym s)
 
 -- ---- a walk over k lines
 
 one_less : (k i : ℕ) → i < k → k - i ≡ suc (k - (i + 1))
 one_less k i h = omega arith
 
-module _ (text : List ℕ) (c k : ℕ) (p : Place) where
-  pub walked_none : Walked text c k 0 p p
+module _ (c k : ℕ) (p : Reader) where
+  pub walked_none : Walked c k 0 p p
   walked_none =
       let e : k - 0 ≡ k = omega arith in
       record {
-        asked = ap (λ (j : ℕ). asks_lines c j (drop p.at text) p.line) e;
-        rest = ap (λ (j : ℕ). after_lines c j (drop p.at text)) e;
+        asked = ap (λ (j : ℕ). asks_lines c j (left p) p.place.line) e;
+        rest = ap (λ (j : ℕ). after_lines c j (left p)) e;
         line = omega arith;
         further = omega arith;
       }
 
-  asked_next : (i : ℕ) (q : Place) → i < k → asks_lines c (k - i) (drop q.at text) q.line ≡ then (asks_line c (drop q.at text) q.line) (asks_lines c (k - (i + 1)) (next c (drop q.at text)) (q.line + 1))
+  asked_next : (i : ℕ) (q : Reader) → i < k → asks_lines c (k - i) (left q) q.place.line ≡ then (asks_line c (left q) q.place.line) (asks_lines c (k - (i + 1)) (next c (left q)) (q.place.line + 1))
   unfolding asks_lines
-  asked_next i q h = ap (λ (j : ℕ). asks_lines c j (drop q.at text) q.line) (one_less k i h)
+  asked_next i q h = ap (λ (j : ℕ). asks_lines c j (left q) q.place.line) (one_less k i h)
 
-  rest_next : (i : ℕ) (q : Place) → i < k → after_lines c (k - i) (drop q.at text) ≡ after_lines c (k - (i + 1)) (next c (drop q.at text))
+  rest_next : (i : ℕ) (q : Reader) → i < k → after_lines c (k - i) (left q) ≡ after_lines c (k - (i + 1)) (next c (left q))
   unfolding after_lines
-  rest_next i q h = ap (λ (j : ℕ). after_lines c j (drop q.at text)) (one_less k i h)
+  rest_next i q h = ap (λ (j : ℕ). after_lines c j (left q)) (one_less k i h)
 
-  pub walked_more : (i : ℕ) (q s : Place) (ws : List ℕ) → i < k → Walked text c k i p q → LinePassed text c q s ws → Walked text c k (i + 1) p s
+  pub walked_more : (i : ℕ) (q s : Reader) (ws : List ℕ) → i < k → Walked c k i p q → LinePassed c q s ws → Walked c k (i + 1) p s
   walked_more i q s ws h w l =
       record {
-        asked = ap₂ (asks_lines c (k - (i + 1))) l.rest l.line ∙ sym (ap (λ x. then x (asks_lines c (k - (i + 1)) (next c (drop q.at text)) (q.line + 1))) l.asked) ∙ sym (asked_next i q h) ∙ w.asked;
+        asked = ap₂ (asks_lines c (k - (i + 1))) l.rest l.line ∙ sym (ap (λ x. then x (asks_lines c (k - (i + 1)) (next c (left q)) (q.place.line + 1))) l.asked) ∙ sym (asked_next i q h) ∙ w.asked;
         rest = ap (after_lines c (k - (i + 1))) l.rest ∙ sym (rest_next i q h) ∙ w.rest;
         line = omega (arith, l.line, w.line);
         further = omega (arith, w.further, l.further);
       }
 
-  pub walked_all : (i : ℕ) (q : Place) → k ≤ i → i ≤ k → Walked text c k i p q → LinesPassed text c k p q
+  pub walked_all : (i : ℕ) (q : Reader) → k ≤ i → i ≤ k → Walked c k i p q → LinesPassed c k p q
   unfolding asks_lines after_lines
   walked_all i q h g w =
       let e : k - i ≡ 0 = omega arith in
       record {
-        asked = sym w.asked ∙ ap (λ (j : ℕ). asks_lines c j (drop q.at text) q.line) e;
-        rest = sym (ap (λ (j : ℕ). after_lines c j (drop q.at text)) e) ∙ w.rest;
+        asked = sym w.asked ∙ ap (λ (j : ℕ). asks_lines c j (left q) q.place.line) e;
+        rest = sym (ap (λ (j : ℕ). after_lines c j (left q)) e) ∙ w.rest;
         line = omega (arith, w.line);
         further = w.further;
       }
 
-  pub walk_broken : (i : ℕ) (q : Place) (e : ProbeFault) → i < k → Walked text c k i p q → asks_line c (drop q.at text) q.line ≡ Some e → asks_lines c k (drop p.at text) p.line ≡ Some e
-  walk_broken i q e h w b = sym w.asked ∙ asked_next i q h ∙ ap (λ x. then x (asks_lines c (k - (i + 1)) (next c (drop q.at text)) (q.line + 1))) b
+  pub walk_broken : (i : ℕ) (q : Reader) (e : ProbeFault) → i < k → Walked c k i p q → asks_line c (left q) q.place.line ≡ Some e → asks_lines c k (left p) p.place.line ≡ Some e
+  walk_broken i q e h w b = sym w.asked ∙ asked_next i q h ∙ ap (λ x. then x (asks_lines c (k - (i + 1)) (next c (left q)) (q.place.line + 1))) b

@@ -12,7 +12,7 @@ use crate::header::Header;
 use crate::questions::first_no_element;
 use crate::reading::Reader;
 use crate::values::write_values;
-use column::{Place, write_line};
+use column::write_line;
 use field::{ByteField, Field, Residue};
 
 const LONGEST_TEXT: usize = 8192;
@@ -25,11 +25,10 @@ fn answer_basis<F: Field>(
     out: &mut [u8; LONGEST_TEXT],
 ) -> Result<usize, ProbeFault>
     requires few { n ≤ 4 }
-    ensures wrote { Wrote result (outcome_over (F.Field.meaning field.now) n header.entry.count (next 4 header.entry.text.now)) out.old out.new }
+    ensures wrote { Wrote result (outcome_over (F.Field.meaning field.now) n header.entry.count (next 4 header.entry.rest.text.now)) out.old out.new }
 {
     let first = Reader {
-        text: header.text,
-        place: header.end,
+        here: header.rest,
         n,
     };
     let end = ask_polynomials(field, first, header.count)?;
@@ -40,7 +39,7 @@ fn answer_basis<F: Field>(
         // `as`: there is no From<usize> for u32, and a place among four words is small.
         return Err(ProbeFault::Point(end.line(), word as u32 + 1));
     }
-    if last.place.at < header.text.len() {
+    if last.here.place.at < last.here.text.len() {
         return Err(ProbeFault::NotOver);
     }
     Ok(write_values(field, first.lines(), header.count, point, out))
@@ -59,7 +58,7 @@ fn answer_header<F: Field>(
     header: Header<'_>,
     out: &mut [u8; LONGEST_TEXT],
 ) -> Result<usize, ProbeFault>
-    ensures wrote { Wrote result (outcome_with (F.Field.meaning field.now) header.entry.order header.entry.n header.entry.count (next 4 header.entry.text.now)) out.old out.new }
+    ensures wrote { Wrote result (outcome_with (F.Field.meaning field.now) header.entry.order header.entry.n header.entry.count (next 4 header.entry.rest.text.now)) out.old out.new }
 {
     if !one_to_four(header.order) {
         return Err(ProbeFault::OrderCode);
@@ -79,13 +78,12 @@ fn answer_text(text: &[u8], out: &mut [u8; LONGEST_TEXT]) -> Result<usize, Probe
         return Err(ProbeFault::TooLong);
     }
     let mut words = [0u32; 4];
-    let end = Place::START
-        .read_line(text, &mut words)
+    let rest = column::Reader::new(text)
+        .read(&mut words)
         .map_err(|fault| ProbeFault::Line(fault, 1))?;
     let [code, order, n, count] = words;
     let header = Header {
-        text,
-        end,
+        rest,
         order,
         n,
         count,

@@ -1,8 +1,9 @@
 // A basis in its text: the questions of its polynomials, in their order.
-ghost use Rattle.std.specs.Prelude.{◌≡◌, drop, Some, MatchResult};
+ghost use Rattle.std.specs.Prelude.{◌≡◌, Some, MatchResult};
+ghost use Rattle.column.specs.Walk.{left};
 ghost use Rattle.evaluation.specs.Padded.{terms_of};
 ghost use Rattle.evaluation.specs.Answer.{asks_terms, asks_polynomial, asks_polynomials};
-ghost use Rattle.evaluation.specs.Steps.{SameText, PolynomialPassed, PolynomialsPassed, refusal_of};
+ghost use Rattle.evaluation.specs.Steps.{PolynomialPassed, PolynomialsPassed, refusal_of};
 
 use crate::fault::ProbeFault;
 use crate::questions::{first_bad_coefficient, first_bad_exponent};
@@ -27,8 +28,8 @@ fn ask_terms<F: Field>(field: &F, terms: Terms<'_>, line: u32) -> Result<(), Pro
 // Asks the polynomial here and answers the place after it.
 fn ask_polynomial<'a, F: Field>(field: &F, reader: Reader<'a>) -> Result<Reader<'a>, ProbeFault>
     ensures asked { MatchResult result
-        (λ q. SameText reader.entry q × PolynomialPassed reader.entry.text.now (F.Field.meaning field.now) reader.entry.n reader.entry.place q.place)
-        (λ e. asks_polynomial (F.Field.meaning field.now) reader.entry.n (drop reader.entry.place.at reader.entry.text.now) reader.entry.place.line ≡ Some e) }
+        (λ q. (q.n ≡ reader.entry.n) × PolynomialPassed (F.Field.meaning field.now) reader.entry.n reader.entry.here q.here)
+        (λ e. asks_polynomial (F.Field.meaning field.now) reader.entry.n (left reader.entry.here) reader.entry.here.place.line ≡ Some e) }
 {
     let mut words = [0u32; 1];
     let first = reader.read(&mut words)?;
@@ -53,8 +54,8 @@ pub(crate) fn ask_polynomials<'a, F: Field>(
     count: u32,
 ) -> Result<Reader<'a>, ProbeFault>
     ensures asked { MatchResult result
-        (λ q. SameText reader.entry q × PolynomialsPassed reader.entry.text.now (F.Field.meaning field.now) reader.entry.n count reader.entry.place q.place)
-        (λ e. asks_polynomials (F.Field.meaning field.now) reader.entry.n count (drop reader.entry.place.at reader.entry.text.now) reader.entry.place.line ≡ Some e) }
+        (λ q. (q.n ≡ reader.entry.n) × PolynomialsPassed (F.Field.meaning field.now) reader.entry.n count reader.entry.here q.here)
+        (λ e. asks_polynomials (F.Field.meaning field.now) reader.entry.n count (left reader.entry.here) reader.entry.here.place.line ≡ Some e) }
 {
     let mut here = reader;
     // Over no items: the polynomials are only in the text, each where the one before ends.

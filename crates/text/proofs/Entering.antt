@@ -1,5 +1,5 @@
 -- The polynomials of a text, entered one after the other: from what is read and what Enter answers to the questions of Fill.
-use Rattle.std.proofs.Common.{◌≡◌, ℕ, suc, ◌+◌, ◌-◌, ◌<◌, ◌≤◌, ◌≢◌, List, [], ◌∷◌, ◌++◌, length, get_or, drop, Ok, Err, Result, sym, refl, ap, ◌∙◌, subst, ap₂, inl, inr, append_assoc, append-nil, arith, length-drop}
+use Rattle.std.proofs.Common.{◌≡◌, ℕ, suc, ◌+◌, ◌-◌, ◌<◌, ◌≤◌, ◌≢◌, List, [], ◌∷◌, ◌++◌, length, get_or, Ok, Err, Result, sym, refl, ap, ◌∙◌, subst, ap₂, inl, inr, append_assoc, append-nil, arith, length-drop}
 use Rattle.std.specs.Result.{result_unwrap_or, result_map_both}
 use Rattle.column.specs.Line.{reading_line}
 use Rattle.column.specs.declared.line.LineFault.{LineFault}
@@ -13,7 +13,8 @@ use Rattle.runs.specs.Enter.{room_asks, terms_asks, enter_asks}
 use Rattle.runs.specs.Text.{words, next, terms, past_terms, term_count, polynomial, past, polynomials, past_all, header_n, header_count, text_length, line_asks, lines_asks, polynomial_asks, polynomials_asks, fill_asks}
 use Rattle.runs.proofs.Questions.{yes_append, yes_rest}
 use Rattle.runs.proofs.Texts.{length_terms, body_asks, later_asks, header_asks}
-use Rattle.column.specs.declared.place.Place.{Place}
+use Rattle.column.specs.declared.reader.Reader.{Reader}
+use Rattle.column.specs.Walk.{left}
 use Rattle.text.specs.declared.fault.TextFault.TheVariants.{Line, NotEmpty, OtherVariables}
 use Rattle.text.specs.Asked.{Faulted, header_of}
 use Rattle.text.specs.Clamped.{clamped_terms}
@@ -51,84 +52,84 @@ module _ (m : FieldMeaning) (cmp : Comparison) where
 
   -- ---- one polynomial
 
-  module _ (bytes : List ℕ) (j : Job) (p : Place) where
+  module _ (j : Job) (p : Reader) where
     abbrev from : List ℕ
-    from = drop p.at bytes
+    from = left p
 
     abbrev Refusal : ℕ → ℕ → ℕ → Type 0
-    Refusal number line place = Refused (polynomial_asks m cmp p.line j (drop p.at bytes)) number line place
+    Refusal number line place = Refused (polynomial_asks m cmp p.place.line j (left p)) number line place
 
     -- its count does not read
-    pub count_refused : (number line place : ℕ) → Refused (line_asks p.line 1 from) number line place → Refusal number line place
-    count_refused number line place r = refused_first (line_asks p.line 1 from) (room_asks p.line j (term_count from) ++ body_asks m cmp p.line j from) number line place r
+    pub count_refused : (number line place : ℕ) → Refused (line_asks p.place.line 1 from) number line place → Refusal number line place
+    count_refused number line place r = refused_first (line_asks p.place.line 1 from) (room_asks p.place.line j (term_count from) ++ body_asks m cmp p.place.line j from) number line place r
 
-    module _ (count : ℕ) (first : Place) (is : count ≡ term_count from) (l : LinePassed bytes 1 p first) where
-      after-count : (number line place : ℕ) → Refused (room_asks p.line j (term_count from) ++ body_asks m cmp p.line j from) number line place → Refusal number line place
-      after-count number line place r = refused_after (line_asks p.line 1 from) (room_asks p.line j (term_count from) ++ body_asks m cmp p.line j from) number line place l.asked r
+    module _ (count : ℕ) (first : Reader) (is : count ≡ term_count from) (l : LinePassed 1 p first) where
+      after-count : (number line place : ℕ) → Refused (room_asks p.place.line j (term_count from) ++ body_asks m cmp p.place.line j from) number line place → Refusal number line place
+      after-count number line place r = refused_after (line_asks p.place.line 1 from) (room_asks p.place.line j (term_count from) ++ body_asks m cmp p.place.line j from) number line place l.asked r
 
       -- there is no room for so many terms
-      pub room-refused : (number line place : ℕ) → Refused (room_asks 0 j count) number line place → Refusal number p.line place
+      pub room-refused : (number line place : ℕ) → Refused (room_asks 0 j count) number line place → Refusal number p.place.line place
       room-refused number line place r =
-          let k = subst (λ (c : ℕ). Refused (room_asks p.line j c) number p.line place) is (room_in_line 0 p.line j count number line place r) in
-          after-count number p.line place (refused_first (room_asks p.line j (term_count from)) (body_asks m cmp p.line j from) number p.line place k)
+          let k = subst (λ (c : ℕ). Refused (room_asks p.place.line j c) number p.place.line place) is (room_in_line 0 p.place.line j count number line place r) in
+          after-count number p.place.line place (refused_first (room_asks p.place.line j (term_count from)) (body_asks m cmp p.place.line j from) number p.place.line place k)
 
       module _ (room : AllYes (room_asks 0 j count)) where
-        after-room : (number line place : ℕ) → Refused (body_asks m cmp p.line j from) number line place → Refusal number line place
+        after-room : (number line place : ℕ) → Refused (body_asks m cmp p.place.line j from) number line place → Refusal number line place
         after-room number line place r =
             let y = subst (λ (c : ℕ). AllYes (room_asks 0 j c)) is room in
-            after-count number line place (refused_after (room_asks p.line j (term_count from)) (body_asks m cmp p.line j from) number line place y r)
+            after-count number line place (refused_after (room_asks p.place.line j (term_count from)) (body_asks m cmp p.place.line j from) number line place y r)
 
         -- the term lines, from the place where they stand
-        lines-there : (number line place : ℕ) → Refused (lines_asks first.line (suc j.n) count (drop first.at bytes)) number line place → Refused (lines_asks (suc p.line) (suc j.n) (term_count from) (next 1 from)) number line place
+        lines-there : (number line place : ℕ) → Refused (lines_asks first.place.line (suc j.n) count (left first)) number line place → Refused (lines_asks (suc p.place.line) (suc j.n) (term_count from) (next 1 from)) number line place
         lines-there number line place r =
-            let a = subst (λ (x : ℕ). Refused (lines_asks x (suc j.n) count (drop first.at bytes)) number line place) l.line r in
-            let b = subst (λ (x : List ℕ). Refused (lines_asks (suc p.line) (suc j.n) count x) number line place) l.rest a in
-            subst (λ (c : ℕ). Refused (lines_asks (suc p.line) (suc j.n) c (next 1 from)) number line place) is b
+            let a = subst (λ (x : ℕ). Refused (lines_asks x (suc j.n) count (left first)) number line place) l.line r in
+            let b = subst (λ (x : List ℕ). Refused (lines_asks (suc p.place.line) (suc j.n) count x) number line place) l.rest a in
+            subst (λ (c : ℕ). Refused (lines_asks (suc p.place.line) (suc j.n) c (next 1 from)) number line place) is b
 
-        lines-passed : AllYes (lines_asks first.line (suc j.n) count (drop first.at bytes)) → AllYes (lines_asks (suc p.line) (suc j.n) (term_count from) (next 1 from))
+        lines-passed : AllYes (lines_asks first.place.line (suc j.n) count (left first)) → AllYes (lines_asks (suc p.place.line) (suc j.n) (term_count from) (next 1 from))
         lines-passed y =
-            let a = subst (λ (x : ℕ). AllYes (lines_asks x (suc j.n) count (drop first.at bytes))) l.line y in
-            let b = subst (λ (x : List ℕ). AllYes (lines_asks (suc p.line) (suc j.n) count x)) l.rest a in
-            subst (λ (c : ℕ). AllYes (lines_asks (suc p.line) (suc j.n) c (next 1 from))) is b
+            let a = subst (λ (x : ℕ). AllYes (lines_asks x (suc j.n) count (left first))) l.line y in
+            let b = subst (λ (x : List ℕ). AllYes (lines_asks (suc p.place.line) (suc j.n) count x)) l.rest a in
+            subst (λ (c : ℕ). AllYes (lines_asks (suc p.place.line) (suc j.n) c (next 1 from))) is b
 
         -- a term line does not read
-        pub lines-refused : (number line place : ℕ) → Refused (lines_asks first.line (suc j.n) count (drop first.at bytes)) number line place → Refusal number line place
+        pub lines-refused : (number line place : ℕ) → Refused (lines_asks first.place.line (suc j.n) count (left first)) number line place → Refusal number line place
         lines-refused number line place r =
-            after-room number line place (refused_first (lines_asks (suc p.line) (suc j.n) (term_count from) (next 1 from)) (terms_asks m cmp j.n p.line (polynomial j.n from)) number line place (lines-there number line place r))
+            after-room number line place (refused_first (lines_asks (suc p.place.line) (suc j.n) (term_count from) (next 1 from)) (terms_asks m cmp j.n p.place.line (polynomial j.n from)) number line place (lines-there number line place r))
 
-        module _ (end : Place) (ls : LinesPassed bytes (suc j.n) count first end) (ts : List job.Term) (e : ts ≡ clamped_terms (terms (suc j.n) count (drop first.at bytes))) (open' : j.stage ≡ opened) where
+        module _ (end : Reader) (ls : LinesPassed (suc j.n) count first end) (ts : List job.Term) (e : ts ≡ clamped_terms (terms (suc j.n) count (left first))) (open' : j.stage ≡ opened) where
           terms-are : ts ≡ clamped_terms (polynomial j.n from)
           terms-are = e ∙ ap₂ (λ (c : ℕ) (bs : List ℕ). clamped_terms (terms (suc j.n) c bs)) is l.rest
 
           as_many : length ts ≡ count
-          as_many = ap length e ∙ length_clamped (terms (suc j.n) count (drop first.at bytes)) ∙ length_terms m cmp (suc j.n) count (drop first.at bytes)
+          as_many = ap length e ∙ length_clamped (terms (suc j.n) count (left first)) ∙ length_terms m cmp (suc j.n) count (left first)
 
           -- Enter refuses the terms
-          pub terms-refused : (number line place : ℕ) → Refused (enter_asks m cmp j ts) number line place → Refusal number p.line place
+          pub terms-refused : (number line place : ℕ) → Refused (enter_asks m cmp j ts) number line place → Refusal number p.place.line place
           terms-refused number line place r =
               let y = subst (λ (c : ℕ). AllYes (room_asks 0 j c)) (sym as_many) room in
-              let a = terms_in_line j.n 0 p.line ts number line place (enter_terms j ts open' y number line place r) in
-              let b = clamped_refused m cmp j.n p.line (polynomial j.n from) number p.line place (subst (λ (us : List job.Term). Refused (terms_asks m cmp j.n p.line us) number p.line place) terms-are a) in
-              after-room number p.line place (refused_after (lines_asks (suc p.line) (suc j.n) (term_count from) (next 1 from)) (terms_asks m cmp j.n p.line (polynomial j.n from)) number p.line place (lines-passed ls.asked) b)
+              let a = terms_in_line j.n 0 p.place.line ts number line place (enter_terms j ts open' y number line place r) in
+              let b = clamped_refused m cmp j.n p.place.line (polynomial j.n from) number p.place.line place (subst (λ (us : List job.Term). Refused (terms_asks m cmp j.n p.place.line us) number p.place.line place) terms-are a) in
+              after-room number p.place.line place (refused_after (lines_asks (suc p.place.line) (suc j.n) (term_count from) (next 1 from)) (terms_asks m cmp j.n p.place.line (polynomial j.n from)) number p.place.line place (lines-passed ls.asked) b)
 
           module _ (y : AllYes (enter_asks m cmp j ts)) where
-            terms-yes : AllYes (terms_asks m cmp j.n p.line (clamped_terms (polynomial j.n from)))
-            terms-yes = subst (λ (us : List job.Term). AllYes (terms_asks m cmp j.n p.line us)) terms-are (yes_rest (room_asks 0 j (length ts)) (terms_asks m cmp j.n 0 ts) y.1)
+            terms-yes : AllYes (terms_asks m cmp j.n p.place.line (clamped_terms (polynomial j.n from)))
+            terms-yes = subst (λ (us : List job.Term). AllYes (terms_asks m cmp j.n p.place.line us)) terms-are (yes_rest (room_asks 0 j (length ts)) (terms_asks m cmp j.n 0 ts) y.1)
 
             -- Enter takes them: they are those of the text
             pub entered-terms : ts ≡ polynomial j.n from
-            entered-terms = terms-are ∙ clamped_accepted m cmp j.n p.line (polynomial j.n from) terms-yes
+            entered-terms = terms-are ∙ clamped_accepted m cmp j.n p.place.line (polynomial j.n from) terms-yes
 
-            pub polynomial-passed : PolynomialPassed m cmp bytes j p end
+            pub polynomial-passed : PolynomialPassed m cmp j p end
             polynomial-passed = record {
               asked =
-                  yes_append (line_asks p.line 1 from) (room_asks p.line j (term_count from) ++ body_asks m cmp p.line j from) l.asked
-                  (yes_append (room_asks p.line j (term_count from)) (body_asks m cmp p.line j from) (subst (λ (c : ℕ). AllYes (room_asks 0 j c)) is room)
-                  (yes_append (lines_asks (suc p.line) (suc j.n) (term_count from) (next 1 from)) (terms_asks m cmp j.n p.line (polynomial j.n from)) (lines-passed ls.asked)
-                  (subst (λ (us : List job.Term). AllYes (terms_asks m cmp j.n p.line us)) (clamped_accepted m cmp j.n p.line (polynomial j.n from) terms-yes) terms-yes)));
+                  yes_append (line_asks p.place.line 1 from) (room_asks p.place.line j (term_count from) ++ body_asks m cmp p.place.line j from) l.asked
+                  (yes_append (room_asks p.place.line j (term_count from)) (body_asks m cmp p.place.line j from) (subst (λ (c : ℕ). AllYes (room_asks 0 j c)) is room)
+                  (yes_append (lines_asks (suc p.place.line) (suc j.n) (term_count from) (next 1 from)) (terms_asks m cmp j.n p.place.line (polynomial j.n from)) (lines-passed ls.asked)
+                  (subst (λ (us : List job.Term). AllYes (terms_asks m cmp j.n p.place.line us)) (clamped_accepted m cmp j.n p.place.line (polynomial j.n from) terms-yes) terms-yes)));
               rest = ls.rest ∙ ap₂ (λ (c : ℕ) (bs : List ℕ). past_terms (suc j.n) c bs) is l.rest;
               line = omega (arith, ls.line, l.line, is);
-              inside = ls.inside;
+              same_text = ls.same_text ∙ l.same_text;
             }
 
   -- ---- all polynomials
@@ -136,57 +137,57 @@ module _ (m : FieldMeaning) (cmp : Comparison) where
   one_less : (k i : ℕ) → i < k → k - i ≡ suc (k - (i + 1))
   one_less k i h = omega arith
 
-  module _ (bytes : List ℕ) (k : ℕ) (j : Job) (p : Place) where
-    pub polynomials_none : p.at ≤ length bytes → PolynomialsWalked m cmp bytes k 0 j p j p
-    polynomials_none l =
+  module _ (k : ℕ) (j : Job) (p : Reader) where
+    pub polynomials_none : PolynomialsWalked m cmp k 0 j p j p
+    polynomials_none =
         let e : k - 0 ≡ k = omega arith in
         record {
-          refuses = λ number line place r. subst (λ (x : ℕ). Refused (polynomials_asks m cmp p.line j x (drop p.at bytes)) number line place) e r;
-          accepts = λ y. subst (λ (x : ℕ). AllYes (polynomials_asks m cmp p.line j x (drop p.at bytes))) e y;
-          rest = ap (λ (x : ℕ). past_all j.n x (drop p.at bytes)) e;
-          enters = ap (λ (x : ℕ). holding j (polynomials j.n x (drop p.at bytes))) e;
+          refuses = λ number line place r. subst (λ (x : ℕ). Refused (polynomials_asks m cmp p.place.line j x (left p)) number line place) e r;
+          accepts = λ y. subst (λ (x : ℕ). AllYes (polynomials_asks m cmp p.place.line j x (left p))) e y;
+          rest = ap (λ (x : ℕ). past_all j.n x (left p)) e;
+          enters = ap (λ (x : ℕ). holding j (polynomials j.n x (left p))) e;
           same_n = refl;
           same_stage = refl;
-          inside = l;
+          same_text = refl;
         }
 
-    module _ (i : ℕ) (j' : Job) (q : Place) (h : i < k) (w : PolynomialsWalked m cmp bytes k i j p j' q) where
+    module _ (i : ℕ) (j' : Job) (q : Reader) (h : i < k) (w : PolynomialsWalked m cmp k i j p j' q) where
       abbrev there : List ℕ
-      there = drop q.at bytes
+      there = left q
 
       -- the polynomial at q is refused
-      pub polynomials-broken : (number line place : ℕ) → Refused (polynomial_asks m cmp q.line j' there) number line place → Refused (polynomials_asks m cmp p.line j k (drop p.at bytes)) number line place
+      pub polynomials-broken : (number line place : ℕ) → Refused (polynomial_asks m cmp q.place.line j' there) number line place → Refused (polynomials_asks m cmp p.place.line j k (left p)) number line place
       polynomials-broken number line place r =
           w.refuses number line place
-          (subst (λ (x : ℕ). Refused (polynomials_asks m cmp q.line j' x there) number line place) (sym (one_less k i h))
-          (refused_first (polynomial_asks m cmp q.line j' there) (later_asks m cmp q.line j' (k - (i + 1)) there) number line place r))
+          (subst (λ (x : ℕ). Refused (polynomials_asks m cmp q.place.line j' x there) number line place) (sym (one_less k i h))
+          (refused_first (polynomial_asks m cmp q.place.line j' there) (later_asks m cmp q.place.line j' (k - (i + 1)) there) number line place r))
 
       -- it is entered
-      module _ (s : Place) (j'' : Job) (l : PolynomialPassed m cmp bytes j' q s) (e : j'' ≡ holding j' (polynomial j'.n there ∷ [])) where
-        refused-there : (number line place : ℕ) → Refused (polynomials_asks m cmp s.line j'' (k - (i + 1)) (drop s.at bytes)) number line place → Refused (polynomials_asks m cmp q.line j' (k - i) there) number line place
+      module _ (s : Reader) (j'' : Job) (l : PolynomialPassed m cmp j' q s) (e : j'' ≡ holding j' (polynomial j'.n there ∷ [])) where
+        refused-there : (number line place : ℕ) → Refused (polynomials_asks m cmp s.place.line j'' (k - (i + 1)) (left s)) number line place → Refused (polynomials_asks m cmp q.place.line j' (k - i) there) number line place
         refused-there number line place r =
-            let a = subst (λ (x : ℕ). Refused (polynomials_asks m cmp x j'' (k - (i + 1)) (drop s.at bytes)) number line place) l.line r in
-            let b = subst (λ (x : List ℕ). Refused (polynomials_asks m cmp (q.line + (1 + term_count there)) j'' (k - (i + 1)) x) number line place) l.rest a in
-            let d = subst (λ (x : Job). Refused (polynomials_asks m cmp (q.line + (1 + term_count there)) x (k - (i + 1)) (past j'.n there)) number line place) e b in
-            subst (λ (x : ℕ). Refused (polynomials_asks m cmp q.line j' x there) number line place) (sym (one_less k i h))
-            (refused_after (polynomial_asks m cmp q.line j' there) (later_asks m cmp q.line j' (k - (i + 1)) there) number line place l.asked d)
+            let a = subst (λ (x : ℕ). Refused (polynomials_asks m cmp x j'' (k - (i + 1)) (left s)) number line place) l.line r in
+            let b = subst (λ (x : List ℕ). Refused (polynomials_asks m cmp (q.place.line + (1 + term_count there)) j'' (k - (i + 1)) x) number line place) l.rest a in
+            let d = subst (λ (x : Job). Refused (polynomials_asks m cmp (q.place.line + (1 + term_count there)) x (k - (i + 1)) (past j'.n there)) number line place) e b in
+            subst (λ (x : ℕ). Refused (polynomials_asks m cmp q.place.line j' x there) number line place) (sym (one_less k i h))
+            (refused_after (polynomial_asks m cmp q.place.line j' there) (later_asks m cmp q.place.line j' (k - (i + 1)) there) number line place l.asked d)
 
-        yes-there : AllYes (polynomials_asks m cmp s.line j'' (k - (i + 1)) (drop s.at bytes)) → AllYes (polynomials_asks m cmp q.line j' (k - i) there)
+        yes-there : AllYes (polynomials_asks m cmp s.place.line j'' (k - (i + 1)) (left s)) → AllYes (polynomials_asks m cmp q.place.line j' (k - i) there)
         yes-there y =
-            let a = subst (λ (x : ℕ). AllYes (polynomials_asks m cmp x j'' (k - (i + 1)) (drop s.at bytes))) l.line y in
-            let b = subst (λ (x : List ℕ). AllYes (polynomials_asks m cmp (q.line + (1 + term_count there)) j'' (k - (i + 1)) x)) l.rest a in
-            let d = subst (λ (x : Job). AllYes (polynomials_asks m cmp (q.line + (1 + term_count there)) x (k - (i + 1)) (past j'.n there))) e b in
-            subst (λ (x : ℕ). AllYes (polynomials_asks m cmp q.line j' x there)) (sym (one_less k i h))
-            (yes_append (polynomial_asks m cmp q.line j' there) (later_asks m cmp q.line j' (k - (i + 1)) there) l.asked d)
+            let a = subst (λ (x : ℕ). AllYes (polynomials_asks m cmp x j'' (k - (i + 1)) (left s))) l.line y in
+            let b = subst (λ (x : List ℕ). AllYes (polynomials_asks m cmp (q.place.line + (1 + term_count there)) j'' (k - (i + 1)) x)) l.rest a in
+            let d = subst (λ (x : Job). AllYes (polynomials_asks m cmp (q.place.line + (1 + term_count there)) x (k - (i + 1)) (past j'.n there))) e b in
+            subst (λ (x : ℕ). AllYes (polynomials_asks m cmp q.place.line j' x there)) (sym (one_less k i h))
+            (yes_append (polynomial_asks m cmp q.place.line j' there) (later_asks m cmp q.place.line j' (k - (i + 1)) there) l.asked d)
 
         -- what follows, and what is entered, in the variables of the job
-        rest_is : drop s.at bytes ≡ past j.n there
+        rest_is : left s ≡ past j.n there
         rest_is = l.rest ∙ ap (λ (n : ℕ). past n there) w.same_n
 
         held-is : j'' ≡ holding j' (polynomial j.n there ∷ [])
         held-is = e ∙ ap (λ (n : ℕ). holding j' (polynomial n there ∷ [])) w.same_n
 
-        pub polynomials_more : PolynomialsWalked m cmp bytes k (i + 1) j p j'' s
+        pub polynomials_more : PolynomialsWalked m cmp k (i + 1) j p j'' s
         polynomials_more = record {
           refuses = λ number line place x. w.refuses number line place (refused-there number line place x);
           accepts = λ y. w.accepts (yes-there y);
@@ -198,20 +199,20 @@ module _ (m : FieldMeaning) (cmp : Comparison) where
               ∙ w.enters;
           same_n = ap (λ (x : Job). x.n) e ∙ w.same_n;
           same_stage = ap (λ (x : Job). x.stage) e ∙ w.same_stage;
-          inside = l.inside;
+          same_text = l.same_text ∙ w.same_text;
         }
 
-    pub polynomials_all : (i : ℕ) (j' : Job) (q : Place) → k ≤ i → PolynomialsWalked m cmp bytes k i j p j' q → PolynomialsPassed m cmp bytes k j p j' q
+    pub polynomials_all : (i : ℕ) (j' : Job) (q : Reader) → k ≤ i → PolynomialsWalked m cmp k i j p j' q → PolynomialsPassed m cmp k j p j' q
     polynomials_all i j' q a w =
         let e : k - i ≡ 0 = omega arith in
         record {
-          asked = w.accepts (subst (λ (x : ℕ). AllYes (polynomials_asks m cmp q.line j' x (drop q.at bytes))) (sym e) tt);
-          rest = sym (ap (λ (x : ℕ). past_all j.n x (drop q.at bytes)) e) ∙ w.rest;
+          asked = w.accepts (subst (λ (x : ℕ). AllYes (polynomials_asks m cmp q.place.line j' x (left q))) (sym e) tt);
+          rest = sym (ap (λ (x : ℕ). past_all j.n x (left q)) e) ∙ w.rest;
           enters =
               sym (ap (λ (ps : List (List job.Term)). record { n = j'.n; polynomials = ps; stage = j'.stage }) (append-nil j'.polynomials))
-              ∙ sym (ap (λ (x : ℕ). holding j' (polynomials j.n x (drop q.at bytes))) e)
+              ∙ sym (ap (λ (x : ℕ). holding j' (polynomials j.n x (left q))) e)
               ∙ w.enters;
-          inside = w.inside;
+          same_text = w.same_text;
         }
 
   -- ---- the whole text
@@ -240,13 +241,13 @@ module _ (m : FieldMeaning) (cmp : Comparison) where
 
   -- the place after the last polynomial is the length of the text
   -- the count as the header has it
-  pub recounted : (bytes : List ℕ) (j j' : Job) (q : Place) {p : Place} {k l : ℕ} → k ≡ l → PolynomialsPassed m cmp bytes k j p j' q → PolynomialsPassed m cmp bytes l j p j' q
-  recounted bytes j j' q {p = p} e w = subst (λ (x : ℕ). PolynomialsPassed m cmp bytes x j p j' q) e w
+  pub recounted : (j j' : Job) (p q : Reader) {k l : ℕ} → k ≡ l → PolynomialsPassed m cmp k j p j' q → PolynomialsPassed m cmp l j p j' q
+  recounted j j' p q e w = subst (λ (x : ℕ). PolynomialsPassed m cmp x j p j' q) e w
 
-  pub fill_length : (bytes : List ℕ) (j j' : Job) (q : Place) {p : Place} → p.at ≡ 45 → PolynomialsPassed m cmp bytes (header_count bytes) j p j' q → q.at ≡ text_length j.n bytes
-  fill_length bytes j j' q at w =
-      let rest : drop q.at bytes ≡ past_all j.n (header_count bytes) (next 4 bytes) = w.rest ∙ ap (λ (k : ℕ). past_all j.n (header_count bytes) (drop k bytes)) at in
-      omega (arith, ap length rest, length-drop q.at bytes, w.inside)
+  pub fill_length : (bytes : List ℕ) (j j' : Job) (p q : Reader) → p.text.now ≡ bytes → left p ≡ next 4 bytes → PolynomialsPassed m cmp (header_count bytes) j p j' q → q.place.at ≡ text_length j.n bytes
+  fill_length bytes j j' p q text from w =
+      let rest : left q ≡ past_all j.n (header_count bytes) (next 4 bytes) = w.rest ∙ ap (past_all j.n (header_count bytes)) from in
+      omega (arith, ap length rest, length-drop q.place.at q.text.now, ap length (w.same_text ∙ text), q.inside)
 
 -- a job without polynomials, cleared after a refusal, is as it was
 pub cleared_same : (j : Job) (n : ℕ) (stage : Stage) → j.polynomials ≡ [] → n ≡ j.n → stage ≡ j.stage → ◌≡◌ {A = Job} (record { n = n; polynomials = []; stage = stage }) j
@@ -266,7 +267,3 @@ module _ (bytes : List ℕ) (h : ℕ × ℕ × ℕ × ℕ) (e : Ok h ≡ header_
 
   pub header_numbers : (h.2 ≡ header_n bytes) × (h.3 ≡ header_count bytes)
   header_numbers = let x = header_words (reading_line 4 bytes) refl e in (ap (λ (a : ℕ × ℕ × ℕ × ℕ). a.2) x, ap (λ (a : ℕ × ℕ × ℕ × ℕ). a.3) x)
-
--- a header that reads is as long as four columns and a byte 10
-pub header_inside : (bytes : List ℕ) → AllYes (line_asks 1 4 bytes) → 45 ≤ length bytes
-header_inside bytes y = omega (arith, y.0.0)

@@ -1,5 +1,5 @@
 -- A walk over k term lines, one turn at a time: what is asked, what follows and what is read is as from the start.
-use Rattle.std.proofs.Common.{◌≡◌, ℕ, suc, ◌+◌, ◌-◌, ◌<◌, ◌≤◌, List, [], ◌∷◌, ◌++◌, length, take, drop, set, sym, ap, ◌∙◌, subst, ap₂, arith}
+use Rattle.std.proofs.Common.{◌≡◌, ℕ, suc, ◌+◌, ◌-◌, ◌<◌, ◌≤◌, List, [], ◌∷◌, ◌++◌, length, take, set, sym, refl, ap, ◌∙◌, subst, ap₂, arith}
 use Rattle.std.proofs.lemmas.List.{append_assoc, append-nil, map-append, take_more_set}
 use Rattle.staircase.specs.declared.rules.Term.{Term}
 use Rattle.polynomials.specs.Held.{terms_of}
@@ -8,88 +8,86 @@ use Rattle.runs.specs.Job as job
 use Rattle.runs.specs.Question.{AllYes, Refused}
 use Rattle.runs.specs.Text.{words, next, term, terms, past_terms, line_asks, lines_asks}
 use Rattle.runs.proofs.Questions.{yes_append}
-use Rattle.column.specs.declared.place.Place.{Place}
+use Rattle.column.specs.declared.reader.Reader.{Reader}
+use Rattle.column.specs.Walk.{left}
 use Rattle.text.specs.Clamped.{clamped, clamped_terms}
 use Rattle.text.specs.Steps.{LinePassed, LinesPassed, Walked}
 
 one_less : (k i : ℕ) → i < k → k - i ≡ suc (k - (i + 1))
 one_less k i h = omega arith
 
-module _ (bytes : List ℕ) (c k : ℕ) (p : Place) where
-  pub walked_none : (out : List Term) → p.at ≤ length bytes → Walked bytes c k 0 p p out
-  walked_none out l =
+module _ (c k : ℕ) (p : Reader) where
+  pub walked_none : (out : List Term) → Walked c k 0 p p out
+  walked_none out =
       let e : k - 0 ≡ k = omega arith in
       record {
-        refuses = λ number line place r. subst (λ (j : ℕ). Refused (lines_asks p.line c j (drop p.at bytes)) number line place) e r;
-        accepts = λ y. subst (λ (j : ℕ). AllYes (lines_asks p.line c j (drop p.at bytes))) e y;
-        rest = ap (λ (j : ℕ). past_terms c j (drop p.at bytes)) e;
-        taken = ap (λ (j : ℕ). clamped_terms (terms c j (drop p.at bytes))) e;
+        refuses = λ number line place r. subst (λ (j : ℕ). Refused (lines_asks p.place.line c j (left p)) number line place) e r;
+        accepts = λ y. subst (λ (j : ℕ). AllYes (lines_asks p.place.line c j (left p))) e y;
+        rest = ap (λ (j : ℕ). past_terms c j (left p)) e;
+        taken = ap (λ (j : ℕ). clamped_terms (terms c j (left p))) e;
         line = omega arith;
-        further = omega arith;
-        inside = l;
+        same_text = refl;
       }
 
-  module _ (i : ℕ) (q : Place) (out : List Term) (h : i < k) (w : Walked bytes c k i p q out) where
+  module _ (i : ℕ) (q : Reader) (out : List Term) (h : i < k) (w : Walked c k i p q out) where
     -- the line at q got its yes
-    module _ (s : Place) (l : LinePassed bytes c q s) where
-      refused-there : (number line place : ℕ) → Refused (lines_asks s.line c (k - (i + 1)) (drop s.at bytes)) number line place → Refused (lines_asks q.line c (k - i) (drop q.at bytes)) number line place
+    module _ (s : Reader) (l : LinePassed c q s) where
+      refused-there : (number line place : ℕ) → Refused (lines_asks s.place.line c (k - (i + 1)) (left s)) number line place → Refused (lines_asks q.place.line c (k - i) (left q)) number line place
       refused-there number line place r =
-          let a = subst (λ (x : ℕ). Refused (lines_asks x c (k - (i + 1)) (drop s.at bytes)) number line place) l.line r in
-          let b = subst (λ (x : List ℕ). Refused (lines_asks (suc q.line) c (k - (i + 1)) x) number line place) l.rest a in
-          subst (λ (j : ℕ). Refused (lines_asks q.line c j (drop q.at bytes)) number line place) (sym (one_less k i h))
-          (refused_after (line_asks q.line c (drop q.at bytes)) (lines_asks (suc q.line) c (k - (i + 1)) (next c (drop q.at bytes))) number line place l.asked b)
+          let a = subst (λ (x : ℕ). Refused (lines_asks x c (k - (i + 1)) (left s)) number line place) l.line r in
+          let b = subst (λ (x : List ℕ). Refused (lines_asks (suc q.place.line) c (k - (i + 1)) x) number line place) l.rest a in
+          subst (λ (j : ℕ). Refused (lines_asks q.place.line c j (left q)) number line place) (sym (one_less k i h))
+          (refused_after (line_asks q.place.line c (left q)) (lines_asks (suc q.place.line) c (k - (i + 1)) (next c (left q))) number line place l.asked b)
 
-      yes-there : AllYes (lines_asks s.line c (k - (i + 1)) (drop s.at bytes)) → AllYes (lines_asks q.line c (k - i) (drop q.at bytes))
+      yes-there : AllYes (lines_asks s.place.line c (k - (i + 1)) (left s)) → AllYes (lines_asks q.place.line c (k - i) (left q))
       yes-there y =
-          let a = subst (λ (x : ℕ). AllYes (lines_asks x c (k - (i + 1)) (drop s.at bytes))) l.line y in
-          let b = subst (λ (x : List ℕ). AllYes (lines_asks (suc q.line) c (k - (i + 1)) x)) l.rest a in
-          subst (λ (j : ℕ). AllYes (lines_asks q.line c j (drop q.at bytes))) (sym (one_less k i h))
-          (yes_append (line_asks q.line c (drop q.at bytes)) (lines_asks (suc q.line) c (k - (i + 1)) (next c (drop q.at bytes))) l.asked b)
+          let a = subst (λ (x : ℕ). AllYes (lines_asks x c (k - (i + 1)) (left s))) l.line y in
+          let b = subst (λ (x : List ℕ). AllYes (lines_asks (suc q.place.line) c (k - (i + 1)) x)) l.rest a in
+          subst (λ (j : ℕ). AllYes (lines_asks q.place.line c j (left q))) (sym (one_less k i h))
+          (yes_append (line_asks q.place.line c (left q)) (lines_asks (suc q.place.line) c (k - (i + 1)) (next c (left q))) l.asked b)
 
-      rest-there : past_terms c (k - (i + 1)) (drop s.at bytes) ≡ past_terms c (k - i) (drop q.at bytes)
-      rest-there = ap (past_terms c (k - (i + 1))) l.rest ∙ sym (ap (λ (j : ℕ). past_terms c j (drop q.at bytes)) (one_less k i h))
+      rest-there : past_terms c (k - (i + 1)) (left s) ≡ past_terms c (k - i) (left q)
+      rest-there = ap (past_terms c (k - (i + 1))) l.rest ∙ sym (ap (λ (j : ℕ). past_terms c j (left q)) (one_less k i h))
 
-      taken-there : (ws : List ℕ) (t : Term) → i < length out → ws ≡ words c (drop q.at bytes) → (t.coefficient, t.monomial) ≡ clamped (term ws)
-          → terms_of (take (i + 1) (set out i t)) ++ clamped_terms (terms c (k - (i + 1)) (drop s.at bytes)) ≡ terms_of (take i out) ++ clamped_terms (terms c (k - i) (drop q.at bytes))
+      taken-there : (ws : List ℕ) (t : Term) → i < length out → ws ≡ words c (left q) → (t.coefficient, t.monomial) ≡ clamped (term ws)
+          → terms_of (take (i + 1) (set out i t)) ++ clamped_terms (terms c (k - (i + 1)) (left s)) ≡ terms_of (take i out) ++ clamped_terms (terms c (k - i) (left q))
       taken-there ws t r is e =
-          let to-come : List job.Term = clamped_terms (terms c (k - (i + 1)) (drop s.at bytes)) in
+          let to-come : List job.Term = clamped_terms (terms c (k - (i + 1)) (left s)) in
           ap (λ (ts : List Term). terms_of ts ++ to-come) (take_more_set out i t r)
           ∙ ap (λ (ts : List job.Term). ts ++ to-come) (map-append (λ (u : Term). (u.coefficient, u.monomial)) (take i out) (t ∷ []))
           ∙ append_assoc (terms_of (take i out)) ((t.coefficient, t.monomial) ∷ []) to-come
           ∙ ap₂ (λ (u : job.Term) (us : List job.Term). terms_of (take i out) ++ (u ∷ us)) (e ∙ ap (λ (vs : List ℕ). clamped (term vs)) is) (ap (λ (x : List ℕ). clamped_terms (terms c (k - (i + 1)) x)) l.rest)
-          ∙ sym (ap (λ (j : ℕ). terms_of (take i out) ++ clamped_terms (terms c j (drop q.at bytes))) (one_less k i h))
+          ∙ sym (ap (λ (j : ℕ). terms_of (take i out) ++ clamped_terms (terms c j (left q))) (one_less k i h))
 
-      pub walked_more : (ws : List ℕ) (t : Term) → i < length out → ws ≡ words c (drop q.at bytes) → (t.coefficient, t.monomial) ≡ clamped (term ws) → Walked bytes c k (i + 1) p s (set out i t)
+      pub walked_more : (ws : List ℕ) (t : Term) → i < length out → ws ≡ words c (left q) → (t.coefficient, t.monomial) ≡ clamped (term ws) → Walked c k (i + 1) p s (set out i t)
       walked_more ws t r is e = record {
         refuses = λ number line place x. w.refuses number line place (refused-there number line place x);
         accepts = λ y. w.accepts (yes-there y);
         rest = rest-there ∙ w.rest;
         taken = taken-there ws t r is e ∙ w.taken;
         line = omega (arith, l.line, w.line);
-        further = omega (arith, l.further, w.further);
-        inside = l.inside;
+        same_text = l.same_text ∙ w.same_text;
       }
 
     -- it got a no
-    pub walk_broken : (number line place : ℕ) → Refused (line_asks q.line c (drop q.at bytes)) number line place → Refused (lines_asks p.line c k (drop p.at bytes)) number line place
+    pub walk_broken : (number line place : ℕ) → Refused (line_asks q.place.line c (left q)) number line place → Refused (lines_asks p.place.line c k (left p)) number line place
     walk_broken number line place r =
         w.refuses number line place
-        (subst (λ (j : ℕ). Refused (lines_asks q.line c j (drop q.at bytes)) number line place) (sym (one_less k i h))
-        (refused_first (line_asks q.line c (drop q.at bytes)) (lines_asks (suc q.line) c (k - (i + 1)) (next c (drop q.at bytes))) number line place r))
+        (subst (λ (j : ℕ). Refused (lines_asks q.place.line c j (left q)) number line place) (sym (one_less k i h))
+        (refused_first (line_asks q.place.line c (left q)) (lines_asks (suc q.place.line) c (k - (i + 1)) (next c (left q))) number line place r))
 
   -- all of them are read
-  pub walked_all : (i : ℕ) (q : Place) (out : List Term) → k ≤ i → i ≤ k → Walked bytes c k i p q out → LinesPassed bytes c k p q × (terms_of (take k out) ≡ clamped_terms (terms c k (drop p.at bytes)))
+  pub walked_all : (i : ℕ) (q : Reader) (out : List Term) → k ≤ i → i ≤ k → Walked c k i p q out → LinesPassed c k p q × (terms_of (take k out) ≡ clamped_terms (terms c k (left p)))
   walked_all i q out a b w =
       let e : k - i ≡ 0 = omega arith in
       let whole : i ≡ k = omega arith in (
         record {
-          asked = w.accepts (subst (λ (j : ℕ). AllYes (lines_asks q.line c j (drop q.at bytes))) (sym e) tt);
-          rest = sym (ap (λ (j : ℕ). past_terms c j (drop q.at bytes)) e) ∙ w.rest;
+          asked = w.accepts (subst (λ (j : ℕ). AllYes (lines_asks q.place.line c j (left q))) (sym e) tt);
+          rest = sym (ap (λ (j : ℕ). past_terms c j (left q)) e) ∙ w.rest;
           line = omega (arith, w.line);
-          further = w.further;
-          inside = w.inside;
+          same_text = w.same_text;
         },
         ap (λ (j : ℕ). terms_of (take j out)) (sym whole)
-            ∙ sym (ap (λ (j : ℕ). terms_of (take i out) ++ clamped_terms (terms c j (drop q.at bytes))) e ∙ append-nil (terms_of (take i out)))
+            ∙ sym (ap (λ (j : ℕ). terms_of (take i out) ++ clamped_terms (terms c j (left q))) e ∙ append-nil (terms_of (take i out)))
             ∙ w.taken,
       )

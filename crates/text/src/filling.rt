@@ -1,6 +1,6 @@
 // Fill: enters the polynomials of a basis text into an empty job, one after the other, and takes them
 // out again where one is refused. Lines are read where they stand; one polynomial's terms are held.
-ghost use Rattle.std.specs.Prelude.{◌≡◌, ◌≤◌, length, take, IfOk};
+ghost use Rattle.std.specs.Prelude.{◌≡◌, take, IfOk};
 ghost use Rattle.runs.specs.Job.{opened};
 ghost use Rattle.runs.specs.Call as call;
 ghost use Rattle.runs.specs.Writing.{basis_text, field_code, order_code};
@@ -12,7 +12,7 @@ ghost use Rattle.text.specs.Filled.{Filled, answer_of};
 use crate::TextFault;
 use crate::first_line::header;
 use crate::reading::{read_count, read_terms};
-use column::Place;
+use column::{Place, Reader};
 use field::Field;
 use job::Job;
 use order::{Monomial, Order};
@@ -26,44 +26,42 @@ const NO_TERM: Term = Term {
     monomial: Monomial::ONE,
 };
 
-// Enters the polynomial at a place and answers the place after it. What the job refuses carries the
-// line of the term count.
-fn fill_polynomial<F: Field, O: Order>(
+// Enters the polynomial that the reader is at and answers the reader after it. What the job refuses
+// carries the line of the term count.
+fn fill_polynomial<'a, F: Field, O: Order>(
     job: &mut Job<F, O>,
-    bytes: &[u8],
-    place: Place,
+    reader: Reader<'a>,
     terms: &mut [Term; Polynomials::MOST_TERMS],
-) -> Result<Place, TextFault>
+) -> Result<Reader<'a>, TextFault>
     requires { (state job.old.table).stage ≡ opened }
-    ensures entered { PolynomialEntered (F.Field.meaning job.old.field) (O.Order.meaning job.old.order) bytes.now (state job.old.table) place (state job.new.table) result }
+    ensures entered { PolynomialEntered (F.Field.meaning job.old.field) (O.Order.meaning job.old.order) (state job.old.table) reader.entry (state job.new.table) result }
     ensures same_field_and_order { (job.new.field ≡ job.old.field) × (job.new.order ≡ job.old.order) }
 {
-    let (count, first) = read_count(bytes, place)?;
+    let line = reader.place.line;
+    let (count, first) = read_count(reader)?;
     job.ask_room(count)
-        .map_err(|fault| TextFault::Job(fault, place.line))?;
-    let end = read_terms(bytes, first, job.variables(), &mut terms[..count])?;
+        .map_err(|fault| TextFault::Job(fault, line))?;
+    let end = read_terms(first, job.variables(), &mut terms[..count])?;
     job.enter(&terms[..count])
-        .map_err(|refusal| TextFault::Job(refusal, place.line))?;
+        .map_err(|refusal| TextFault::Job(refusal, line))?;
     Ok(end)
 }
 
-// Enters so many polynomials from a place on and answers the place after them.
-fn fill_polynomials<F: Field, O: Order>(
+// Enters so many polynomials from the reader's line on and answers the reader after them.
+fn fill_polynomials<'a, F: Field, O: Order>(
     job: &mut Job<F, O>,
-    bytes: &[u8],
-    place: Place,
+    reader: Reader<'a>,
     count: u32,
     terms: &mut [Term; Polynomials::MOST_TERMS],
-) -> Result<Place, TextFault>
-    requires inside { place.at ≤ length bytes.now }
-    requires opened { (state job.old.table).stage ≡ opened }
-    ensures entered { PolynomialsEntered (F.Field.meaning job.old.field) (O.Order.meaning job.old.order) bytes.now count (state job.old.table) place (state job.new.table) result }
+) -> Result<Reader<'a>, TextFault>
+    requires { (state job.old.table).stage ≡ opened }
+    ensures entered { PolynomialsEntered (F.Field.meaning job.old.field) (O.Order.meaning job.old.order) count (state job.old.table) reader.entry (state job.new.table) result }
     ensures same_field_and_order { (job.new.field ≡ job.old.field) × (job.new.order ≡ job.old.order) }
 {
-    let mut here = place;
+    let mut here = reader;
     // Over no items: the polynomials are only in the text, each where the one before ends.
     for _i in 0..count {
-        here = fill_polynomial(job, bytes, here, terms)?;
+        here = fill_polynomial(job, here, terms)?;
     }
     Ok(here)
 }
@@ -84,9 +82,13 @@ pub fn fill<F: Field, O: Order>(job: &mut Job<F, O>, bytes: &[u8]) -> Result<usi
     if n as usize != job.variables() {
         return Err(TextFault::OtherVariables);
     }
+    let first = Reader {
+        text: bytes,
+        place: AFTER_HEADER,
+    };
     let mut terms = [NO_TERM; Polynomials::MOST_TERMS];
-    match fill_polynomials(job, bytes, AFTER_HEADER, count, &mut terms) {
-        Ok(end) => Ok(end.at),
+    match fill_polynomials(job, first, count, &mut terms) {
+        Ok(end) => Ok(end.place.at),
         Err(fault) => {
             job.clear();
             Err(fault)

@@ -1,13 +1,14 @@
-use Rattle.std.proofs.Common.{ℕ, ◌≤◌, Ok, Err, sym, refl, ap, ◌∙◌, subst, lit≤}
+use Rattle.std.proofs.Common.{ℕ, ◌≤◌, Ok, Err, sym, refl, ap, ◌∙◌, subst}
 use Rattle.std.proofs.lemmas.Result.{err_from_is_err_and}
 use Rattle.std.proofs.lemmas.Bool.{true≢false}
 use Rattle.order.specs.Monomials.{variables}
 use Rattle.runs.specs.Job.{Job, opened}
+use Rattle.runs.specs.Text.{next, polynomials_asks}
 use Rattle.job.specs.State.{state}
 use Rattle.text.specs.declared.fault.TextFault.TheVariants.{NotEmpty, OtherVariables}
+use Rattle.text.specs.Asked.{Faulted}
 use Rattle.text.specs.Filled.{Filled}
-use Rattle.text.specs.Filling.{PolynomialsEntered}
-use Rattle.text.proofs.Entering.{fill_not_empty, fill-unread, fill-other, fill-refused, fill-accepted, recounted, fill_length, cleared_same, header_numbers, header_inside}
+use Rattle.text.proofs.Entering.{fill_not_empty, fill-unread, fill-other, fill-refused, fill-accepted, recounted, fill_length, cleared_same, header_numbers}
 use Rattle.text.proofs.Filled.{promised_as_was, promised_open, text_again}
 use Rattle.text.proofs.filling.fill.Goals as goal
 
@@ -41,10 +42,7 @@ returns-then-n-variables g c =
     record { filled = (d, refl); promised = promised_as_was m cmp O t c.args.bytes.now OtherVariables d; written_again = tt; same_field_and_order = (refl, refl) }
 
 pub fill_polynomials-requires : goal.fill_polynomials-requires
-fill_polynomials-requires g c = record {
-  inside = header_inside c.args.bytes.now c.in_ok-n.ensures.asked;
-  opened = (c.if-not-is_new.ensures.0 refl).0;
-}
+fill_polynomials-requires g c = (c.if-not-is_new.ensures.0 refl).0
 
 pub returns-in-Ok : goal.returns-in-Ok
 returns-in-Ok g c =
@@ -57,13 +55,13 @@ returns-in-Ok g c =
     let bytes = c.args.bytes.now in
     let empty = c.if-not-is_new.ensures.0 refl in
     let h = header_numbers bytes (c.in_ok-n.field-0-0, c.in_ok-n.field-0-1, c.in_ok-n.n, c.in_ok-n.count) c.in_ok-n.ensures.value in
-    let w = recounted m cmp bytes (state t) (state u) c.in-Ok.end h.1 c.in-Ok.ensures.entered in
-    let filled : Filled m cmp bytes (state t) (state u) (Ok c.in-Ok.end.at) = (fill-accepted m cmp bytes (state t) empty c.in_ok-n.ensures.asked (sym h.0 ∙ c.if-n-variables.false ∙ c.variables.ensures.value) w.asked, fill_length m cmp bytes (state t) (state u) c.in-Ok.end refl w, w.enters) in
+    let w = recounted m cmp (state t) (state u) _ c.in-Ok.end h.1 c.in-Ok.ensures.entered in
+    let filled : Filled m cmp bytes (state t) (state u) (Ok c.in-Ok.end.place.at) = (fill-accepted m cmp bytes (state t) empty c.in_ok-n.ensures.asked (sym h.0 ∙ c.if-n-variables.false ∙ c.variables.ensures.value) w.asked, fill_length m cmp bytes (state t) (state u) _ c.in-Ok.end refl refl w, w.enters) in
     let fits = subst (λ (x : ℕ). x ≤ variables) c.variables.ensures.value c.variables.ensures.few.1 in
     record {
       filled = filled;
-      promised = promised_open m cmp O t bytes u (ap (λ (x : Job). x.stage) w.enters ∙ empty.0) (Ok c.in-Ok.end.at) filled;
-      written_again = text_again m laws cmp bytes (state t) (state u) c.in-Ok.end.at fits filled;
+      promised = promised_open m cmp O t bytes u (ap (λ (x : Job). x.stage) w.enters ∙ empty.0) (Ok c.in-Ok.end.place.at) filled;
+      written_again = text_again m laws cmp bytes (state t) (state u) c.in-Ok.end.place.at fits filled;
       same_field_and_order = c.in-Ok.ensures.same_field_and_order;
     }
 
@@ -78,10 +76,11 @@ returns-in-Err g c =
     let bytes = c.args.bytes.now in
     let empty = c.if-not-is_new.ensures.0 refl in
     let h = header_numbers bytes (c.in_ok-n.field-0-0, c.in_ok-n.field-0-1, c.in_ok-n.n, c.in_ok-n.count) c.in_ok-n.ensures.value in
-    let w = subst (λ (k : ℕ). PolynomialsEntered m cmp bytes k (state t) (record { at = 45; line = 2; counted = lit≤ tt }) (state u) (Err c.in-Err.fault)) h.1 c.in-Err.ensures.entered in
+    let w = subst (λ (k : ℕ). Faulted (polynomials_asks m cmp 2 (state t) k (next 4 bytes)) c.in-Err.fault) h.1 c.in-Err.ensures.entered.0 in
+    let same = c.in-Err.ensures.entered.1 in
     let filled : Filled m cmp bytes (state t) (state v) (Err c.in-Err.fault) = (
-      fill-refused m cmp bytes (state t) empty c.in_ok-n.ensures.asked (sym h.0 ∙ c.if-n-variables.false ∙ c.variables.ensures.value) _ _ _ w.0,
-      c.clear.ensures.cleared ∙ cleared_same (state t) (state u).n opened empty.1 w.1 (sym empty.0),
+      fill-refused m cmp bytes (state t) empty c.in_ok-n.ensures.asked (sym h.0 ∙ c.if-n-variables.false ∙ c.variables.ensures.value) _ _ _ w,
+      c.clear.ensures.cleared ∙ cleared_same (state t) (state u).n opened empty.1 same (sym empty.0),
     ) in
     record {
       filled = filled;
