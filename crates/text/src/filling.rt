@@ -11,7 +11,8 @@ ghost use Rattle.text.specs.Filled.{Filled, answer_of};
 
 use crate::TextFault;
 use crate::first_line::header;
-use crate::reading::{read_count, read_terms};
+use crate::layout::Layout;
+use crate::reading::read_count;
 use column::{Place, Reader};
 use field::Field;
 use job::Job;
@@ -41,7 +42,8 @@ fn fill_polynomial<'a, F: Field, O: Order>(
     let (count, first) = read_count(reader)?;
     job.ask_room(count)
         .map_err(|fault| TextFault::Job(fault, line))?;
-    let end = read_terms(first, job.variables(), &mut terms[..count])?;
+    let layout = Layout { n: job.variables() };
+    let end = layout.read_terms(first, &mut terms[..count])?;
     job.enter(&terms[..count])
         .map_err(|refusal| TextFault::Job(refusal, line))?;
     Ok(end)

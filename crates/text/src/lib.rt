@@ -5,6 +5,7 @@
 pub mod fault;
 pub mod filling;
 pub mod first_line;
+mod layout;
 mod reading;
 mod term;
 pub mod writing;

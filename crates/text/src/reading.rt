@@ -1,9 +1,9 @@
 // Reading lines of a text one after the other. Terms go where the caller lends room for them.
-ghost use Rattle.std.specs.Prelude.{suc, ◌≤◌, length};
-ghost use Rattle.order.specs.Monomials.{variables};
+ghost use Rattle.std.specs.Prelude.{suc, length};
 ghost use Rattle.text.specs.Steps.{LineRead, CountRead, TermsRead};
 
 use crate::TextFault;
+use crate::layout::Layout;
 use crate::term::term_of;
 use column::Reader;
 use polynomials::Term;
@@ -27,21 +27,22 @@ pub(crate) fn read_count(reader: Reader<'_>) -> Result<(usize, Reader<'_>), Text
     Ok((words[0] as usize, next))
 }
 
-// Reads lines of terms in n variables, one for each of the terms, and answers the reader after them.
-pub(crate) fn read_terms<'a>(
-    reader: Reader<'a>,
-    n: usize,
-    terms: &mut [Term],
-) -> Result<Reader<'a>, TextFault>
-    requires { n ≤ variables }
-    ensures { TermsRead (suc n) (length terms.old) reader.entry terms.new result }
-{
-    let mut line = [0u32; 5];
-    let words = &mut line[..=n];
-    let mut here = reader;
-    for term in terms.iter_mut() {
-        here = read_line(here, words)?;
-        *term = term_of(words);
+impl Layout {
+    // Reads lines of terms, one for each of the terms, and answers the reader after them.
+    pub(crate) fn read_terms<'a>(
+        self,
+        reader: Reader<'a>,
+        terms: &mut [Term],
+    ) -> Result<Reader<'a>, TextFault>
+        ensures { TermsRead (suc self.n) (length terms.old) reader.entry terms.new result }
+    {
+        let mut line = [0u32; 5];
+        let words = &mut line[..=self.n];
+        let mut here = reader;
+        for term in terms.iter_mut() {
+            here = read_line(here, words)?;
+            *term = term_of(words);
+        }
+        Ok(here)
     }
-    Ok(here)
 }

@@ -15,6 +15,7 @@ ghost use Rattle.text.specs.declared.fault.TextFault.TheVariants as fault;
 ghost use Rattle.text.specs.Written.{Wrote, ReadsBack, Words, AllWords, term_words, sizes, terms_size, polynomial_size, text_size};
 
 use crate::TextFault;
+use crate::layout::Layout;
 use column::write_line;
 use field::Field;
 use job::Job;
@@ -27,19 +28,6 @@ const COUNT_LINE: usize = 12;
 const HEADER_LINE: usize = 45;
 
 const COLUMN: usize = 11;
-
-// How many bytes the text of the polynomials has.
-fn text_length(polynomials: &Polynomials, n: usize) -> usize
-    requires { n ≤ variables }
-    ensures { result ≡ text_size n (held polynomials.now) }
-{
-    let term_line = COLUMN * (n + 1) + 1;
-    let mut length = HEADER_LINE;
-    for terms in polynomials.iter() {
-        length += COUNT_LINE + terms.len() * term_line;
-    }
-    length
-}
 
 // Writes the line of the words at a place that has room for it, and answers the place after it.
 fn put_line(out: &mut [u8], at: usize, words: &[u32]) -> usize
@@ -67,74 +55,89 @@ fn words_of(term: Term) -> [u32; 5]
     ]
 }
 
-// Writes the lines of the terms at a place that has room for them, and answers the place after them.
-fn put_terms(terms: &[Term], n: usize, out: &mut [u8], at: usize) -> usize
-    requires few { n ≤ variables }
-    requires room { at + terms_size n (terms_of terms.now) ≤ length out.old }
-    ensures fit { Words (terms_of terms.now) }
-    ensures long { length (flat_map (term_line n) (terms_of terms.now)) ≡ terms_size n (terms_of terms.now) }
-    ensures place_after { result ≡ at + terms_size n (terms_of terms.now) }
-    ensures bytes { out.new ≡ put out.old at (flat_map (term_line n) (terms_of terms.now)) }
-{
-    let mut end = at;
-    for term in terms {
-        let words = words_of(*term);
-        end = put_line(out, end, &words[..n + 1]);
+// The bytes and the place are no struct: each of these would have to promise that it holds the same bytes.
+impl Layout {
+    // How many bytes the text of the polynomials has.
+    fn text_length(self, polynomials: &Polynomials) -> usize
+        ensures { result ≡ text_size self.n (held polynomials.now) }
+    {
+        let term_line = COLUMN * (self.n + 1) + 1;
+        let mut length = HEADER_LINE;
+        for terms in polynomials.iter() {
+            length += COUNT_LINE + terms.len() * term_line;
+        }
+        length
     }
-    end
-}
 
-// The same of a polynomial: the line of its number of terms, then theirs.
-fn put_polynomial(terms: &[Term], n: usize, out: &mut [u8], at: usize) -> usize
-    requires short { length terms.now ≤ 1024 }
-    requires few { n ≤ variables }
-    requires room { at + polynomial_size n (terms_of terms.now) ≤ length out.old }
-    ensures fit { Words (terms_of terms.now) }
-    ensures long { length (polynomial_text n (terms_of terms.now)) ≡ polynomial_size n (terms_of terms.now) }
-    ensures place_after { result ≡ at + polynomial_size n (terms_of terms.now) }
-    ensures bytes { out.new ≡ put out.old at (polynomial_text n (terms_of terms.now)) }
-{
-    // At most 1024 terms: `as` keeps their number, and Rust has no `From` there.
-    let first = put_line(out, at, &[terms.len() as u32]);
-    put_terms(terms, n, out, first)
-}
-
-// The same of all polynomials.
-fn put_polynomials(polynomials: &Polynomials, n: usize, out: &mut [u8], at: usize) -> usize
-    requires few { n ≤ variables }
-    requires room { at + sizes (polynomial_size n) (held polynomials.now) ≤ length out.old }
-    ensures fit { AllWords (held polynomials.now) }
-    ensures long { length (flat_map (polynomial_text n) (held polynomials.now)) ≡ sizes (polynomial_size n) (held polynomials.now) }
-    ensures place_after { result ≡ at + sizes (polynomial_size n) (held polynomials.now) }
-    ensures bytes { out.new ≡ put out.old at (flat_map (polynomial_text n) (held polynomials.now)) }
-{
-    let mut end = at;
-    for terms in polynomials.iter() {
-        end = put_polynomial(terms, n, out, end);
+    // Writes the lines of the terms at a place that has room for them, and answers the place after them.
+    fn put_terms(self, terms: &[Term], out: &mut [u8], at: usize) -> usize
+        requires { at + terms_size self.n (terms_of terms.now) ≤ length out.old }
+        ensures fit { Words (terms_of terms.now) }
+        ensures long { length (flat_map (term_line self.n) (terms_of terms.now)) ≡ terms_size self.n (terms_of terms.now) }
+        ensures place_after { result ≡ at + terms_size self.n (terms_of terms.now) }
+        ensures bytes { out.new ≡ put out.old at (flat_map (term_line self.n) (terms_of terms.now)) }
+    {
+        let mut end = at;
+        for term in terms {
+            let words = words_of(*term);
+            end = put_line(out, end, &words[..=self.n]);
+        }
+        end
     }
-    end
-}
 
-// Writes the text of the polynomials in n variables at the front of `out` and answers its length.
-// The codes are numbers and no enum: a caller's own are written as they are, so no kind is known here.
-fn write_text(
-    polynomials: &Polynomials,
-    n: usize,
-    field_code: u32,
-    order_code: u32,
-    out: &mut [u8],
-) -> Result<usize, JobFault>
-    requires { n ≤ variables }
-    ensures wrote { Wrote ShortOutput (basis_text field_code order_code n (held polynomials.now)) out.old out.new result }
-    ensures fit { OnOk result (AllWords (held polynomials.now)) }
-{
-    if out.len() < text_length(polynomials, n) {
-        return Err(JobFault::ShortOutput);
+    // The same of a polynomial: the line of its number of terms, then theirs.
+    fn put_polynomial(self, terms: &[Term], out: &mut [u8], at: usize) -> usize
+        requires short { length terms.now ≤ 1024 }
+        requires room { at + polynomial_size self.n (terms_of terms.now) ≤ length out.old }
+        ensures fit { Words (terms_of terms.now) }
+        ensures long { length (polynomial_text self.n (terms_of terms.now)) ≡ polynomial_size self.n (terms_of terms.now) }
+        ensures place_after { result ≡ at + polynomial_size self.n (terms_of terms.now) }
+        ensures bytes { out.new ≡ put out.old at (polynomial_text self.n (terms_of terms.now)) }
+    {
+        // At most 1024 terms: `as` keeps their number, and Rust has no `From` there.
+        let first = put_line(out, at, &[terms.len() as u32]);
+        self.put_terms(terms, out, first)
     }
-    let count = polynomials.count();
-    // Four variables and 48 polynomials at most: `as` keeps both, and Rust has no `From` there.
-    let first = put_line(out, 0, &[field_code, order_code, n as u32, count as u32]);
-    Ok(put_polynomials(polynomials, n, out, first))
+
+    // The same of all polynomials.
+    fn put_polynomials(self, polynomials: &Polynomials, out: &mut [u8], at: usize) -> usize
+        requires { at + sizes (polynomial_size self.n) (held polynomials.now) ≤ length out.old }
+        ensures fit { AllWords (held polynomials.now) }
+        ensures long { length (flat_map (polynomial_text self.n) (held polynomials.now)) ≡ sizes (polynomial_size self.n) (held polynomials.now) }
+        ensures place_after { result ≡ at + sizes (polynomial_size self.n) (held polynomials.now) }
+        ensures bytes { out.new ≡ put out.old at (flat_map (polynomial_text self.n) (held polynomials.now)) }
+    {
+        let mut end = at;
+        for terms in polynomials.iter() {
+            end = self.put_polynomial(terms, out, end);
+        }
+        end
+    }
+
+    // Writes the text of the polynomials at the front of `out` and answers its length.
+    // The codes are numbers and no enum: a caller's own are written as they are, so no kind is known here.
+    fn write_text(
+        self,
+        polynomials: &Polynomials,
+        field_code: u32,
+        order_code: u32,
+        out: &mut [u8],
+    ) -> Result<usize, JobFault>
+        ensures wrote { Wrote ShortOutput (basis_text field_code order_code self.n (held polynomials.now)) out.old out.new result }
+        ensures fit { OnOk result (AllWords (held polynomials.now)) }
+    {
+        if out.len() < self.text_length(polynomials) {
+            return Err(JobFault::ShortOutput);
+        }
+        let count = polynomials.count();
+        // Four variables and 48 polynomials at most: `as` keeps both, and Rust has no `From` there.
+        let first = put_line(
+            out,
+            0,
+            &[field_code, order_code, self.n as u32, count as u32],
+        );
+        Ok(self.put_polynomials(polynomials, out, first))
+    }
 }
 
 // Writes the basis text of the job's polynomials, with these codes of field and order, at the front of
@@ -148,7 +151,7 @@ pub fn write<F: Field, O: Order>(
     ensures wrote { Wrote (fault.Job ShortOutput 0) (basis_text field_code order_code (state job.now.table).n (state job.now.table).polynomials) out.old out.new result }
     ensures reads_back { IfOk result (λ size. (laws : FieldLaws (F.Field.meaning job.now.field)) → Kept (F.Field.meaning job.now.field) laws (O.Order.meaning job.now.order) job.now.table → ReadsBack (F.Field.meaning job.now.field) laws (O.Order.meaning job.now.order) (state job.now.table) (take size out.new) size) }
 {
-    let n = job.variables();
-    let size = write_text(job.polynomials(), n, field_code, order_code, out)?;
+    let layout = Layout { n: job.variables() };
+    let size = layout.write_text(job.polynomials(), field_code, order_code, out)?;
     Ok(size)
 }

@@ -17,7 +17,7 @@ returns g c =
     let h = c.in_ok-size.ensures in
     let w : Wrote ShortOutput (basis_text f o j.n j.polynomials) c.args.out.now c.write_text.new.out (Ok c.in_ok-size.size) =
     subst (λ (s : Polynomials). Wrote ShortOutput (basis_text f o j.n (held s)) c.args.out.now c.write_text.new.out (Ok c.in_ok-size.size)) c.polynomials.ensures
-    (subst (λ (n : ℕ). Wrote ShortOutput (basis_text f o n (held c.polynomials.result.now)) c.args.out.now c.write_text.new.out (Ok c.in_ok-size.size)) c.variables-n.ensures.value h.wrote) in
+    (subst (λ (n : ℕ). Wrote ShortOutput (basis_text f o n (held c.polynomials.result.now)) c.args.out.now c.write_text.new.out (Ok c.in_ok-size.size)) c.variables.ensures.value h.wrote) in
     let fit : AllWords j.polynomials = subst (λ (s : Polynomials). AllWords (held s)) c.polynomials.ensures h.fit in
     let hf : Word f = let k = c.ranges.field_code.fits in omega arith in
     let ho : Word o = let k = c.ranges.order_code.fits in omega arith in

@@ -1,0 +1,10 @@
+// How the terms of a text are laid out in lines: by the number of variables.
+ghost use Rattle.std.specs.Prelude.{◌≤◌};
+ghost use Rattle.order.specs.Monomials.{variables};
+
+// A line has a column for the coefficient and one for the exponent of each variable.
+#[derive(Clone, Copy)]
+pub(crate) struct Layout {
+    pub n: usize,
+    pub ghost few: { n ≤ variables },
+}
