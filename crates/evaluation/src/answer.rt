@@ -9,7 +9,6 @@ ghost use Rattle.evaluation.specs.Steps.{Wrote};
 use crate::basis::ask_polynomials;
 use crate::fault::ProbeFault;
 use crate::header::Header;
-use crate::questions::first_no_element;
 use crate::reading::Reader;
 use crate::values::write_values;
 use column::write_line;
@@ -35,7 +34,7 @@ fn answer_basis<F: Field>(
     let mut words = [0u32; 4];
     let point = &mut words[..n];
     let last = end.read(point)?;
-    if let Some(word) = first_no_element(field, point) {
+    if let Some(word) = field.first_no_element(point) {
         // `as`: there is no From<usize> for u32, and a place among four words is small.
         return Err(ProbeFault::Point(end.line(), word as u32 + 1));
     }

@@ -1,6 +1,6 @@
-// The questions that the terms of a polynomial and the words of a point are asked. Each search finds
-// the first that gets a no; nothing here decides the order of the questions.
-ghost use Rattle.std.specs.Prelude.{◌≡◌, not, ◌<◌, length, drop, nat_le, position, IfSome};
+// The questions that the terms of a polynomial are asked. Each search finds the first that gets a no;
+// nothing here decides the order of the questions.
+ghost use Rattle.std.specs.Prelude.{◌≡◌, not, ◌<◌, drop, nat_le, position, IfSome};
 ghost use Rattle.std.specs.List.{list_all};
 ghost use Rattle.evaluation.specs.Answer.{coefficient_stands};
 ghost use Rattle.evaluation.specs.Padded.{terms_left};
@@ -41,12 +41,4 @@ pub(crate) fn first_bad_exponent(mut terms: Terms<'_>) -> Option<usize>
             ensures { result ≡ not (list_all (λ e. nat_le e 48) (drop 1 term)) }
         { !exponents_stand(&term) },
     )
-}
-
-// The first of the words that is no element.
-pub(crate) fn first_no_element<F: Field>(field: &F, words: &[u32]) -> Option<usize>
-    ensures first { result ≡ position (λ w. not ((F.Field.meaning field.now).elem w)) words.now }
-    ensures within { IfSome result (λ k. k < length words.now) }
-{
-    words.iter().position(|word| !field.contains(*word))
 }
