@@ -29,10 +29,6 @@ cond_at_true x u v e = ap (λ (b : Bool). cond b u v) e
 cond_at_false : {A : Type 0} (x : Bool) (u v : A) → x ≡ false → cond x u v ≡ v
 cond_at_false x u v e = ap (λ (b : Bool). cond b u v) e
 
-and_second : (a b : Bool) → (a && b) ≡ true → b ≡ true
-and_second true b e = e
-and_second false b e = absurd (let z : ◌≡◌ {A = ℕ} 0 1 = cc in omega arith)
-
 over_none : (text : List ℕ) (i : ℕ) → length text ≤ i → asks_over (drop i text) ≡ None
 over_none text i h = ap asks_over (drop_all i text h)
 

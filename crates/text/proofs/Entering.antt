@@ -59,10 +59,6 @@ module _ (m : FieldMeaning) (cmp : Comparison) where
     abbrev Refusal : ℕ → ℕ → ℕ → Type 0
     Refusal number line place = Refused (polynomial_asks m cmp p.place.line j (left p)) number line place
 
-    -- its count does not read
-    pub count_refused : (number line place : ℕ) → Refused (line_asks p.place.line 1 from) number line place → Refusal number line place
-    count_refused number line place r = refused_first (line_asks p.place.line 1 from) (room_asks p.place.line j (term_count from) ++ body_asks m cmp p.place.line j from) number line place r
-
     module _ (count : ℕ) (first : Reader) (is : count ≡ term_count from) (l : LinePassed 1 p first) where
       after-count : (number line place : ℕ) → Refused (room_asks p.place.line j (term_count from) ++ body_asks m cmp p.place.line j from) number line place → Refusal number line place
       after-count number line place r = refused_after (line_asks p.place.line 1 from) (room_asks p.place.line j (term_count from) ++ body_asks m cmp p.place.line j from) number line place l.asked r

@@ -13,5 +13,6 @@ pub fn header(bytes: &[u8]) -> Result<(u32, u32, u32, u32), TextFault>
 {
     let mut words = [0u32; 4];
     read_line(bytes, 0, &mut words).map_err(|fault| TextFault::Line(fault, 1))?;
-    Ok((words[0], words[1], words[2], words[3]))
+    let [field, order, n, count] = words;
+    Ok((field, order, n, count))
 }
