@@ -1,6 +1,6 @@
 -- A walk over k term lines, one turn at a time: what is asked, what follows and what is read is as from the start.
-use Rattle.std.proofs.Common.{◌≡◌, ℕ, suc, ◌+◌, ◌-◌, ◌<◌, ◌≤◌, List, [], ◌∷◌, ◌++◌, length, take, set, sym, refl, ap, ◌∙◌, subst, ap₂, arith}
-use Rattle.std.proofs.lemmas.List.{append_assoc, append-nil, map-append, take_more_set}
+use Rattle.std.proofs.Common.{◌≡◌, ℕ, suc, ◌+◌, ◌-◌, ◌<◌, ◌≤◌, List, [], ◌∷◌, ◌++◌, length, take, set, Result, sym, refl, ap, ◌∙◌, subst, ap₂, arith}
+use Rattle.std.proofs.lemmas.List.{append_assoc, append-nil, length-take-le, map-append, take_more_set}
 use Rattle.staircase.specs.declared.rules.Term.{Term}
 use Rattle.polynomials.specs.Held.{terms_of}
 use Rattle.polynomials.proofs.Answering.{refused_first, refused_after}
@@ -11,7 +11,8 @@ use Rattle.runs.proofs.Questions.{yes_append}
 use Rattle.column.specs.declared.reader.Reader.{Reader}
 use Rattle.column.specs.Walk.{left}
 use Rattle.text.specs.Clamped.{clamped, clamped_terms}
-use Rattle.text.specs.Steps.{LinePassed, LinesPassed, Walked}
+use Rattle.text.specs.declared.fault.TextFault.{TextFault}
+use Rattle.text.specs.Steps.{LinePassed, LinesPassed, TermsRead, Walked}
 
 one_less : (k i : ℕ) → i < k → k - i ≡ suc (k - (i + 1))
 one_less k i h = omega arith
@@ -91,3 +92,7 @@ module _ (c k : ℕ) (p : Reader) where
             ∙ sym (ap (λ (j : ℕ). terms_of (take i out) ++ clamped_terms (terms c j (left q))) e ∙ append-nil (terms_of (take i out)))
             ∙ w.taken,
       )
+
+-- what reading terms answers, the numbers of variables and of terms known by other names
+pub terms_read : (n n' count : ℕ) (before after : List Term) (p : Reader) (r : Result Reader TextFault) → n' ≡ n → count ≤ length before → TermsRead (suc n') (length (take count before)) p after r → TermsRead (suc n) count p after r
+terms_read n n' count before after p r e h t = subst (λ (k : ℕ). TermsRead (suc n) k p after r) (length-take-le count before h) (subst (λ (x : ℕ). TermsRead (suc x) (length (take count before)) p after r) e t)

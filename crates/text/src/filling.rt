@@ -1,11 +1,13 @@
 // Fill: enters the polynomials of a basis text into an empty job, one after the other, and takes them
 // out again where one is refused. Lines are read where they stand; one polynomial's terms are held.
 ghost use Rattle.std.specs.Prelude.{◌≡◌, take, IfOk};
+ghost use Rattle.std.specs.Result.{result_map_both};
 ghost use Rattle.runs.specs.Job.{opened};
 ghost use Rattle.runs.specs.Call as call;
 ghost use Rattle.runs.specs.Writing.{basis_text, field_code, order_code};
 ghost use Rattle.job.specs.State.{state};
 ghost use Rattle.job.specs.Promise.{Promised};
+ghost use Rattle.text.specs.declared.fault.TextFault.TheVariants as fault;
 ghost use Rattle.text.specs.Filling.{PolynomialEntered, PolynomialsEntered};
 ghost use Rattle.text.specs.Filled.{Filled, answer_of};
 
@@ -17,7 +19,7 @@ use column::{Place, Reader};
 use field::Field;
 use job::Job;
 use order::{Monomial, Order};
-use polynomials::{Polynomials, Term};
+use polynomials::{JobFault, Polynomials, Term};
 
 // The place of the line after the header.
 const AFTER_HEADER: Place = Place { at: 45, line: 2 };
@@ -26,6 +28,13 @@ const NO_TERM: Term = Term {
     coefficient: 0,
     monomial: Monomial::ONE,
 };
+
+// The answer of the job, with the line in the fault.
+fn in_line(answer: Result<(), JobFault>, line: usize) -> Result<(), TextFault>
+    ensures { result ≡ result_map_both (λ x. x) (λ f. fault.Job f line) answer }
+{
+    answer.map_err(|fault| TextFault::Job(fault, line))
+}
 
 // Enters the polynomial that the reader is at and answers the reader after it. What the job refuses
 // carries the line of the term count.
@@ -40,12 +49,10 @@ fn fill_polynomial<'a, F: Field, O: Order>(
 {
     let line = reader.place.line;
     let (count, first) = read_count(reader)?;
-    job.ask_room(count)
-        .map_err(|fault| TextFault::Job(fault, line))?;
+    in_line(job.ask_room(count), line)?;
     let layout = Layout { n: job.variables() };
     let end = layout.read_terms(first, &mut terms[..count])?;
-    job.enter(&terms[..count])
-        .map_err(|refusal| TextFault::Job(refusal, line))?;
+    in_line(job.enter(&terms[..count]), line)?;
     Ok(end)
 }
 
