@@ -103,6 +103,7 @@ pub fn answer_to(text: &[u8], out: &mut [u8]) -> Option<usize>
     ensures answer { 8192 ≤ length out.old → (result ≡ Some (length (answer text.now))) × (out.new ≡ put out.old 0 (answer text.now)) }
 {
     let front: &mut [u8; LONGEST_TEXT] = out.first_chunk_mut()?;
+    // By cases: a refusal is written too, and has a line of its own.
     match answer_text(text, front) {
         Ok(end) => Some(end),
         Err(fault) => {

@@ -96,6 +96,7 @@ pub fn fill<F: Field, O: Order>(job: &mut Job<F, O>, bytes: &[u8]) -> Result<usi
         place: AFTER_HEADER,
     };
     let mut terms = [NO_TERM; Polynomials::MOST_TERMS];
+    // By cases: a refusal takes the polynomials before it out again.
     match fill_polynomials(job, first, count, &mut terms) {
         Ok(end) => Ok(end.place.at),
         Err(fault) => {
