@@ -1,5 +1,5 @@
 -- The polynomials of a text, entered one after the other: from what is read and what Enter answers to the questions of Fill.
-use Rattle.std.proofs.Common.{◌≡◌, ℕ, suc, ◌+◌, ◌-◌, ◌<◌, ◌≤◌, ◌≢◌, List, [], ◌∷◌, ◌++◌, length, get_or, Ok, Err, Result, sym, refl, ap, ◌∙◌, subst, ap₂, inl, inr, append_assoc, append-nil, arith, length-drop}
+use Rattle.std.proofs.Common.{◌≡◌, ℕ, suc, ◌+◌, ◌-◌, ◌<◌, ◌≢◌, List, [], ◌∷◌, ◌++◌, length, get_or, Ok, Err, Result, sym, refl, ap, ◌∙◌, subst, ap₂, inl, inr, append_assoc, arith, length-drop}
 use Rattle.std.specs.Result.{result_unwrap_or, result_map_both}
 use Rattle.column.specs.Line.{reading_line}
 use Rattle.column.specs.declared.line.LineFault.{LineFault}
@@ -134,19 +134,6 @@ module _ (m : FieldMeaning) (cmp : Comparison) where
   one_less k i h = omega arith
 
   module _ (k : ℕ) (j : Job) (p : Reader) where
-    pub polynomials_none : PolynomialsWalked m cmp k 0 j p j p
-    polynomials_none =
-        let e : k - 0 ≡ k = omega arith in
-        record {
-          refuses = λ number line place r. subst (λ (x : ℕ). Refused (polynomials_asks m cmp p.place.line j x (left p)) number line place) e r;
-          accepts = λ y. subst (λ (x : ℕ). AllYes (polynomials_asks m cmp p.place.line j x (left p))) e y;
-          rest = ap (λ (x : ℕ). past_all j.n x (left p)) e;
-          enters = ap (λ (x : ℕ). holding j (polynomials j.n x (left p))) e;
-          same_n = refl;
-          same_stage = refl;
-          same_text = refl;
-        }
-
     module _ (i : ℕ) (j' : Job) (q : Reader) (h : i < k) (w : PolynomialsWalked m cmp k i j p j' q) where
       abbrev there : List ℕ
       there = left q
@@ -196,19 +183,6 @@ module _ (m : FieldMeaning) (cmp : Comparison) where
           same_n = ap (λ (x : Job). x.n) e ∙ w.same_n;
           same_stage = ap (λ (x : Job). x.stage) e ∙ w.same_stage;
           same_text = l.same_text ∙ w.same_text;
-        }
-
-    pub polynomials_all : (i : ℕ) (j' : Job) (q : Reader) → k ≤ i → PolynomialsWalked m cmp k i j p j' q → PolynomialsPassed m cmp k j p j' q
-    polynomials_all i j' q a w =
-        let e : k - i ≡ 0 = omega arith in
-        record {
-          asked = w.accepts (subst (λ (x : ℕ). AllYes (polynomials_asks m cmp q.place.line j' x (left q))) (sym e) tt);
-          rest = sym (ap (λ (x : ℕ). past_all j.n x (left q)) e) ∙ w.rest;
-          enters =
-              sym (ap (λ (ps : List (List job.Term)). record { n = j'.n; polynomials = ps; stage = j'.stage }) (append-nil j'.polynomials))
-              ∙ sym (ap (λ (x : ℕ). holding j' (polynomials j.n x (left q))) e)
-              ∙ w.enters;
-          same_text = w.same_text;
         }
 
   -- ---- the whole text

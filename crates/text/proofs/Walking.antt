@@ -1,6 +1,6 @@
 -- A walk over k term lines, one turn at a time: what is asked, what follows and what is read is as from the start.
-use Rattle.std.proofs.Common.{◌≡◌, ℕ, suc, ◌+◌, ◌-◌, ◌<◌, ◌≤◌, List, [], ◌∷◌, ◌++◌, length, take, set, Result, sym, refl, ap, ◌∙◌, subst, ap₂, arith}
-use Rattle.std.proofs.lemmas.List.{append_assoc, append-nil, length-take-le, map-append, take_more_set}
+use Rattle.std.proofs.Common.{◌≡◌, ℕ, suc, ◌+◌, ◌-◌, ◌<◌, ◌≤◌, List, [], ◌∷◌, ◌++◌, length, take, set, Result, sym, ap, ◌∙◌, subst, ap₂, arith}
+use Rattle.std.proofs.lemmas.List.{append_assoc, length-take-le, map-append, take_more_set}
 use Rattle.staircase.specs.declared.rules.Term.{Term}
 use Rattle.polynomials.specs.Held.{terms_of}
 use Rattle.polynomials.proofs.Answering.{refused_first, refused_after}
@@ -12,24 +12,12 @@ use Rattle.column.specs.declared.reader.Reader.{Reader}
 use Rattle.column.specs.Walk.{left}
 use Rattle.text.specs.Clamped.{clamped, clamped_terms}
 use Rattle.text.specs.declared.fault.TextFault.{TextFault}
-use Rattle.text.specs.Steps.{LinePassed, LinesPassed, TermsRead, Walked}
+use Rattle.text.specs.Steps.{LinePassed, TermsRead, Walked}
 
 one_less : (k i : ℕ) → i < k → k - i ≡ suc (k - (i + 1))
 one_less k i h = omega arith
 
 module _ (c k : ℕ) (p : Reader) where
-  pub walked_none : (out : List Term) → Walked c k 0 p p out
-  walked_none out =
-      let e : k - 0 ≡ k = omega arith in
-      record {
-        refuses = λ number line place r. subst (λ (j : ℕ). Refused (lines_asks p.place.line c j (left p)) number line place) e r;
-        accepts = λ y. subst (λ (j : ℕ). AllYes (lines_asks p.place.line c j (left p))) e y;
-        rest = ap (λ (j : ℕ). past_terms c j (left p)) e;
-        taken = ap (λ (j : ℕ). clamped_terms (terms c j (left p))) e;
-        line = omega arith;
-        same_text = refl;
-      }
-
   module _ (i : ℕ) (q : Reader) (out : List Term) (h : i < k) (w : Walked c k i p q out) where
     -- the line at q got its yes
     module _ (s : Reader) (l : LinePassed c q s) where
@@ -76,22 +64,6 @@ module _ (c k : ℕ) (p : Reader) where
         w.refuses number line place
         (subst (λ (j : ℕ). Refused (lines_asks q.place.line c j (left q)) number line place) (sym (one_less k i h))
         (refused_first (line_asks q.place.line c (left q)) (lines_asks (suc q.place.line) c (k - (i + 1)) (next c (left q))) number line place r))
-
-  -- all of them are read
-  pub walked_all : (i : ℕ) (q : Reader) (out : List Term) → k ≤ i → i ≤ k → Walked c k i p q out → LinesPassed c k p q × (terms_of (take k out) ≡ clamped_terms (terms c k (left p)))
-  walked_all i q out a b w =
-      let e : k - i ≡ 0 = omega arith in
-      let whole : i ≡ k = omega arith in (
-        record {
-          asked = w.accepts (subst (λ (j : ℕ). AllYes (lines_asks q.place.line c j (left q))) (sym e) tt);
-          rest = sym (ap (λ (j : ℕ). past_terms c j (left q)) e) ∙ w.rest;
-          line = omega (arith, w.line);
-          same_text = w.same_text;
-        },
-        ap (λ (j : ℕ). terms_of (take j out)) (sym whole)
-            ∙ sym (ap (λ (j : ℕ). terms_of (take i out) ++ clamped_terms (terms c j (left q))) e ∙ append-nil (terms_of (take i out)))
-            ∙ w.taken,
-      )
 
 -- what reading terms answers, the numbers of variables and of terms known by other names
 pub terms_read : (n n' count : ℕ) (before after : List Term) (p : Reader) (r : Result Reader TextFault) → n' ≡ n → count ≤ length before → TermsRead (suc n') (length (take count before)) p after r → TermsRead (suc n) count p after r

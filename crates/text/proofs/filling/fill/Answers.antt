@@ -41,9 +41,6 @@ returns-then-n-variables g c =
     let d = fill-other m cmp c.args.bytes.now (state t) (c.if-not-is_new.ensures.0 refl) c.in_ok-n.ensures.asked (λ e. c.if-n-variables.true (h.0 ∙ e ∙ sym c.variables.ensures.value)) in
     record { filled = (d, refl); promised = promised_as_was m cmp O t c.args.bytes.now OtherVariables d; written_again = tt; same_field_and_order = (refl, refl) }
 
-pub fill_polynomials-requires : goal.fill_polynomials-requires
-fill_polynomials-requires g c = (c.if-not-is_new.ensures.0 refl).0
-
 pub returns-in-Ok : goal.returns-in-Ok
 returns-in-Ok g c =
     let m = g.F.Field.meaning c.args.job.now.field in

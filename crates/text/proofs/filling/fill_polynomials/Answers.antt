@@ -1,23 +1,12 @@
-use Rattle.std.proofs.Common.{Ok, Err, refl, ap, ◌∙◌, subst}
+use Rattle.std.proofs.Common.{Ok, Err, ap, ◌∙◌, subst}
 use Rattle.std.proofs.lemmas.Result.{err_from_is_err_and}
 use Rattle.field.specs.Meaning.{FieldMeaning}
 use Rattle.order.specs.Laws.{Comparison}
 use Rattle.runs.specs.Job.{Job}
 use Rattle.text.specs.Filling.{PolynomialEntered}
-use Rattle.text.proofs.Entering.{polynomials_none, polynomials_more, polynomials-broken, polynomials_all}
+use Rattle.text.proofs.Entering.{polynomials_more, polynomials-broken}
 use Rattle.job.specs.State.{state}
 use Rattle.text.proofs.filling.fill_polynomials.Goals as goal
-
-pub loop-i-init : goal.loop-i-init
-loop-i-init g c =
-    let m = g.F.Field.meaning c.args.job.now.field in
-    let cmp = g.O.Order.meaning c.args.job.now.order in
-    let j = state c.args.job.now.table in
-    (refl, refl, polynomials_none m cmp c.args.count j c.args.reader)
-
-pub fill_polynomial-requires : goal.fill_polynomial-requires
-fill_polynomial-requires g c =
-    c.loop-i.invariant.2.same_stage ∙ c.requires
 
 pub returns-in_err-here : goal.returns-in_err-here
 returns-in_err-here g c =
@@ -49,13 +38,3 @@ loop-i-preserved g c =
       c.in_ok-here.ensures.same_field_and_order.1 ∙ w.1,
       polynomials_more m cmp c.args.count j c.args.reader c.loop-i._i (state c.loop-i.job.table) c.loop-i.here c.loop-i-test.true w.2 c.in_ok-here.here (state c.fill_polynomial.new.job.table) b.0 b.1,
     )
-
-pub returns : goal.returns
-returns g c =
-    let m = g.F.Field.meaning c.args.job.now.field in
-    let cmp = g.O.Order.meaning c.args.job.now.order in
-    let j = state c.args.job.now.table in
-    record {
-      entered = polynomials_all m cmp c.args.count j c.args.reader c.loop-i._i (state c.loop-i.job.table) c.loop-i.here c.loop-i-test.false c.loop-i.invariant.2;
-      same_field_and_order = (c.loop-i.invariant.0, c.loop-i.invariant.1);
-    }

@@ -1,14 +1,11 @@
-use Rattle.std.proofs.Common.{ℕ, suc, ◌+◌, [], ◌∷◌, length, Ok, ◌∙◌, subst, arith, length-take}
+use Rattle.std.proofs.Common.{ℕ, suc, length, Ok, ◌∙◌, subst, arith}
 use Rattle.std.proofs.lemmas.Result.{err_from_is_err_and}
 use Rattle.column.specs.Walk.{left}
 use Rattle.runs.specs.Text.{line_asks}
 use Rattle.text.specs.Asked.{Faulted}
 use Rattle.text.specs.Steps.{LineRead}
-use Rattle.text.proofs.Walking.{walked_none, walked_more, walked_all, walk_broken}
+use Rattle.text.proofs.Walking.{walked_more, walk_broken}
 use Rattle.text.proofs.layout.Layout.read_terms.Goals as goal
-
-pub loop-term-init : goal.loop-term-init
-loop-term-init c = (omega (arith, c.args.self.few, length-take {A = ℕ} (c.args.self.n + 1) (0 ∷ 0 ∷ 0 ∷ 0 ∷ 0 ∷ [])), walked_none (suc c.args.self.n) (length c.args.terms.now) c.args.reader c.args.terms.now)
 
 pub returns-in_err-here : goal.returns-in_err-here
 returns-in_err-here c =
@@ -23,6 +20,3 @@ loop-term-preserved c =
       c.read_line.auto.words ∙ c.loop-term.invariant.0,
       walked_more (suc c.args.self.n) (length c.args.terms.now) c.args.reader c.loop-term.term-index c.loop-term.here c.loop-term.terms c.loop-term-test.true c.loop-term.invariant.1 c.in_ok-here.here l.0 c.read_line.new.words c.term_of.result (omega arith) l.1 c.term_of.ensures,
     )
-
-pub returns : goal.returns
-returns c = walked_all (suc c.args.self.n) (length c.args.terms.now) c.args.reader c.loop-term.term-index c.loop-term.here c.loop-term.terms c.loop-term-test.false c.loop-term.auto.term-index-end c.loop-term.invariant.1
