@@ -95,16 +95,6 @@ module _ (ws : List ℕ) (m : FieldMeaning) (n : ℕ) (p first : Reader) where
 -- ---- a walk over k polynomials
 
 module _ (m : FieldMeaning) (n k : ℕ) (p : Reader) where
-  pub polynomials_none : WalkedPolynomials m n k 0 p p
-  polynomials_none =
-      let e : k - 0 ≡ k = omega arith in
-      record {
-        asked = ap (λ (j : ℕ). asks_polynomials m n j (left p) p.place.line) e;
-        rest = ap (λ (j : ℕ). after_all n j (left p)) e;
-        line = ap (λ (j : ℕ). p.place.line + lines_all n j (left p)) e;
-        further = omega arith;
-      }
-
   module _ (i : ℕ) (q : Reader) (h : i < k) where
     abbrev others : ℕ
     others = k - (i + 1)

@@ -59,16 +59,6 @@ one_less : (k i : ℕ) → i < k → k - i ≡ suc (k - (i + 1))
 one_less k i h = omega arith
 
 module _ (c k : ℕ) (p : Reader) where
-  pub walked_none : Walked c k 0 p p
-  walked_none =
-      let e : k - 0 ≡ k = omega arith in
-      record {
-        asked = ap (λ (j : ℕ). asks_lines c j (left p) p.place.line) e;
-        rest = ap (λ (j : ℕ). after_lines c j (left p)) e;
-        line = omega arith;
-        further = omega arith;
-      }
-
   asked_next : (i : ℕ) (q : Reader) → i < k → asks_lines c (k - i) (left q) q.place.line ≡ then (asks_line c (left q) q.place.line) (asks_lines c (k - (i + 1)) (next c (left q)) (q.place.line + 1))
   unfolding asks_lines
   asked_next i q h = ap (λ (j : ℕ). asks_lines c j (left q) q.place.line) (one_less k i h)

@@ -1,13 +1,10 @@
-use Rattle.std.proofs.Common.{◌≡◌, ℕ, Some, refl, ◌∙◌, subst}
+use Rattle.std.proofs.Common.{◌≡◌, ℕ, Some, ◌∙◌, subst}
 use Rattle.std.proofs.lemmas.Result.{err_from_is_err_and}
 use Rattle.column.specs.Walk.{left}
 use Rattle.evaluation.specs.Answer.{asks_polynomial}
 use Rattle.evaluation.specs.Steps.{PolynomialPassed}
-use Rattle.evaluation.proofs.Asking.{polynomials_none, polynomials_more, polynomials-broken, polynomials_passed}
+use Rattle.evaluation.proofs.Asking.{polynomials_more, polynomials-broken, polynomials_passed}
 use Rattle.evaluation.proofs.basis.ask_polynomials.Goals as goal
-
-pub loop-i-init : goal.loop-i-init
-loop-i-init g c = let r = c.args.reader in record { same = refl; walked = polynomials_none (g.F.Field.meaning c.args.field.now) r.n c.args.count r.here }
 
 pub returns-in_err-here : goal.returns-in_err-here
 returns-in_err-here g c =

@@ -1,5 +1,5 @@
-use Rattle.std.proofs.Common.{◌≡◌, ℕ, length, drop, Option, unwrap_or, refl, ap, ◌∙◌, subst, arith, rules}
-use Rattle.evaluation.proofs.Summing.{Listed, listed_none, listed_more, of_polynomial, after_polynomial}
+use Rattle.std.proofs.Common.{ℕ, length, drop, Option, unwrap_or, refl, ap, ◌∙◌, arith, rules}
+use Rattle.evaluation.proofs.Summing.{listed_none, listed_more, of_polynomial, after_polynomial}
 use Rattle.evaluation.proofs.values.write_values.Goals as goal
 
 pub loop-i-init : goal.loop-i-init
@@ -21,9 +21,3 @@ loop-i-preserved g c =
       listed = listed_more m (length x) x (drop c.args.basis.at c.args.basis.text.now) c.args.out.now c.loop-i._i here _ c.loop-i.out _ c.loop-i.end _ _ (search rules)
           (omega (arith, c.loop-i.invariant.listed.count)) c.loop-i.invariant.same_length v rest (c.unwrap_or-end.ensures ∙ ap (λ (o : Option ℕ). unwrap_or o c.loop-i.end) c.write_line.ensures.place_after) c.write_line.ensures.rest_unchanged c.loop-i.invariant.listed;
     }
-
-pub returns : goal.returns
-returns g c =
-    let whole : c.loop-i._i ≡ c.args.count = omega arith in
-    let l = subst (λ (i : ℕ). Listed (g.F.Field.meaning c.args.field.now) (length c.args.point.now) c.args.point.now (drop c.args.basis.at c.args.basis.text.now) c.args.out.now i (drop c.loop-i.lines.at c.loop-i.lines.text.now) c.loop-i.out c.loop-i.end) whole c.loop-i.invariant.listed in
-    record { bytes = l.bytes; within = omega (arith, l.count); end = l.end_is }

@@ -1,14 +1,11 @@
-use Rattle.std.proofs.Common.{◌≡◌, ℕ, ◌+◌, length, take, drop, Some, refl, ◌∙◌, subst, arith, length-append, length-drop}
+use Rattle.std.proofs.Common.{◌≡◌, ℕ, ◌+◌, length, take, drop, Some, ◌∙◌, subst, arith, length-append, length-drop}
 use Rattle.std.proofs.lemmas.Result.{err_from_is_err_and}
 use Rattle.std.proofs.lemmas.List.{length-take-le}
 use Rattle.column.specs.Walk.{left}
 use Rattle.evaluation.specs.Answer.{asks_line}
 use Rattle.evaluation.specs.Steps.{LinePassed}
-use Rattle.evaluation.proofs.Passing.{walked_none, walked_more, walked_all, walk_broken}
+use Rattle.evaluation.proofs.Passing.{walked_more, walked_all, walk_broken}
 use Rattle.evaluation.proofs.reading.Reader.pass_terms.Goals as goal
-
-pub loop-i-init : goal.loop-i-init
-loop-i-init c = record { words = refl; same = refl; walked = walked_none (c.args.self.n + 1) c.args.count c.args.self.here }
 
 pub returns-in_err-here : goal.returns-in_err-here
 returns-in_err-here c =
