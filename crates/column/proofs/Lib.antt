@@ -3,6 +3,7 @@ pub mod Exactness
 pub mod Fronts
 pub mod Justified
 pub mod Lines
+pub mod Mapped
 pub mod Newlines
 pub mod Pieces
 pub mod Places

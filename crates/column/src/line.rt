@@ -107,6 +107,7 @@ fn put_columns(out: &mut [u8], at: usize, words: &[u32])
 pub fn write_line(out: &mut [u8], at: usize, words: &[u32]) -> Option<usize>
     ensures place_after { result ≡ after out.old at (line words.now) }
     ensures rest_unchanged { out.new ≡ placed out.old at (line words.now) }
+    ensures long { length (line words.now) ≡ line_length (length words.now) }
 {
     if !line_fits(out, at, words.len()) {
         return None;

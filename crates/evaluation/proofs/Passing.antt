@@ -1,7 +1,6 @@
 -- Passing over lines of a text: what reading one tells, and one turn of a walk over many.
-use Rattle.std.proofs.Common.{◌≡◌, ℕ, suc, ◌+◌, ◌-◌, ◌<◌, ◌≤◌, List, length, drop, replicate, Some, Ok, Err, Result, sym, refl, ap, ◌∙◌, subst, ap₂, arith, drop-drop}
+use Rattle.std.proofs.Common.{◌≡◌, ℕ, suc, ◌+◌, ◌-◌, ◌<◌, ◌≤◌, List, length, drop, replicate, Some, Ok, Err, Result, sym, refl, ap, ◌∙◌, ap₂, arith, drop-drop}
 use Rattle.std.specs.Result as results
-use Rattle.std.specs.Result.{MatchResult, IsErrAnd}
 use Rattle.column.specs.Walk.{left, byte_after}
 use Rattle.column.specs.declared.line.LineFault.{LineFault}
 use Rattle.column.specs.Line.{line_length, reading_line, after_line, taken_words}
@@ -11,16 +10,6 @@ use Rattle.evaluation.specs.Steps.{LinePassed, LinesPassed, Walked}
 use Rattle.evaluation.specs.declared.fault.ProbeFault.{ProbeFault}
 use Rattle.evaluation.specs.declared.fault.ProbeFault.TheVariants.{Line}
 use Rattle.column.specs.declared.reader.Reader.{Reader}
-
--- ---- what a mapped error tells of the answer before
-
-pub mapped_ok : {T E D : Type 0} (r : Result T E) (s : Result T D) (y : T) (Q : E → D → Type 0) → s ≡ Ok y → MatchResult r (λ x. s ≡ Ok x) (λ e. IsErrAnd s (Q e)) → r ≡ Ok y
-mapped_ok (Ok x) s y Q e h = let k : y ≡ x = cc in ap Ok (sym k)
-mapped_ok (Err d) s y Q e h = absurd (subst (λ t. IsErrAnd t (Q d)) e h)
-
-pub mapped_err : {T E D : Type 0} (r : Result T E) (s : Result T D) (d : D) (Q : E → D → Type 0) → s ≡ Err d → MatchResult r (λ x. s ≡ Ok x) (λ e. IsErrAnd s (Q e)) → (e : E) × (r ≡ Err e) × Q e d
-mapped_err (Ok x) s d Q e h = absurd (let z : ◌≡◌ {A = ℕ} 0 1 = cc in omega arith)
-mapped_err (Err f) s d Q e h = (f, refl, subst (λ t. IsErrAnd t (Q f)) e h)
 
 -- ---- a line that reads
 

@@ -12,7 +12,7 @@ returns-then-not-line_fits c =
     let n = line_length_is ws (words_from_fits ws c.type_inv.words) in
     let short = leb-false (c.args.at + line_length (length ws)) (length c.args.out.now) (sym c.if-not-line_fits.ensures) in
     let p = without_room c.args.out.now (line ws) c.args.at (line_length (length ws)) n short in
-    record { place_after = p.0; rest_unchanged = p.1 }
+    record { place_after = p.0; rest_unchanged = p.1; long = n }
 
 pub returns : goal.returns
 returns c =
@@ -23,4 +23,5 @@ returns c =
     record {
       place_after = ap Some (omega arith) ∙ p.0;
       rest_unchanged = put_line c.args.out.now c.put_columns.new.out ws c.args.at words fits (omega arith) c.put_columns.ensures ∙ p.1;
+      long = line_length_is ws words;
     }

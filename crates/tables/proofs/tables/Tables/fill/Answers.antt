@@ -6,7 +6,7 @@ use Rattle.algebra.specs.Basis as basis
 use Rattle.runs.specs.Generators.{generators}
 use Rattle.polynomials.specs.Held.{entries, held}
 use Rattle.tables.specs.Filling.{MatricesIn}
-use Rattle.tables.proofs.Answered.{mapped_ok, mapped_err}
+use Rattle.column.proofs.Mapped.{mapped_ok, mapped_err}
 use Rattle.tables.proofs.Closing as closing
 use Rattle.tables.proofs.tables.Tables.fill.Goals as goal
 

@@ -3,7 +3,7 @@ use Rattle.std.proofs.lemmas.Result.{err_from_is_err_and}
 use Rattle.polynomials.specs.declared.fault.JobFault.{JobFault}
 use Rattle.polynomials.specs.Held.{held}
 use Rattle.tables.specs.Making.{Made}
-use Rattle.tables.proofs.Answered.{mapped_ok, mapped_err}
+use Rattle.column.proofs.Mapped.{mapped_ok, mapped_err}
 use Rattle.tables.proofs.Asking as asking
 use Rattle.tables.proofs.tables.Tables.make.Goals as goal
 
