@@ -62,7 +62,7 @@ def flags():
     yield from found(r'_code: u32\b|\bcode == 0|order: u32\b')
     yield from found(r'^\s*let (?:Some|Ok|Err)\([^=]*\) =[^;{]*else \{\s*return (?:Err|None|false)[^;]*;')
     yield from found(r'^\s*(?:None|Some\([^)]*\)|Err\([^_)]*\)) => (?:return )?Err\([^,]*\)(?:,|;)')
-    yield from found(r'\bif [^{};]*\{\s*(?:Some|Ok)\([^{};]*\)\s*\} else \{\s*(?:None|Err\([^{};]*\))\s*\}')
+    yield from found(r'\bif [^{};]*\{\s*Some\([^{};]*\)\s*\} else \{\s*None\s*\}')
     yield from found(r'^\s*\[\] => [^,]*,')
 
 

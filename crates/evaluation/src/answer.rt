@@ -2,7 +2,7 @@
 // stand here in their order; the text is read where it stands, and only `out` is written.
 ghost use Rattle.std.specs.Prelude.{◌≡◌, ◌<◌, ◌≤◌, length, IfSome, Some, None, slice_index};
 ghost use Rattle.column.specs.Place.{put};
-ghost use Rattle.evaluation.specs.Answer.{one_to_four, outcome_over, outcome_with, outcome, answer};
+ghost use Rattle.evaluation.specs.Answer.{outcome_over, outcome_with, outcome, answer};
 ghost use Rattle.evaluation.specs.Basis.{next};
 ghost use Rattle.evaluation.specs.Steps.{Wrote};
 
@@ -44,13 +44,6 @@ fn answer_basis<F: Field>(
     Ok(write_values(field, first.lines(), header.count, point, out))
 }
 
-// The library's range under one name, since two questions ask it.
-fn one_to_four(w: u32) -> bool
-    ensures { result ≡ one_to_four w }
-{
-    (1..=4).contains(&w)
-}
-
 // Asks the order code and the number of variables, then the basis.
 fn answer_header<F: Field>(
     field: &F,
@@ -59,10 +52,10 @@ fn answer_header<F: Field>(
 ) -> Result<usize, ProbeFault>
     ensures wrote { Wrote result (outcome_with (F.Field.meaning field.now) header.entry.order header.entry.n header.entry.count (next 4 header.entry.rest.text.now)) out.old out.new }
 {
-    if !one_to_four(header.order) {
+    if !(1..=4).contains(&header.order) {
         return Err(ProbeFault::OrderCode);
     }
-    if !one_to_four(header.n) {
+    if !(1..=4).contains(&header.n) {
         return Err(ProbeFault::Variables);
     }
     // `as`: there is no From<u32> for usize, and the number is at most four.

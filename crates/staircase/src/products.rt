@@ -14,6 +14,7 @@ use order::Monomial;
 const NUMBERED: usize = 256;
 
 // The place of the product of `m` and the variable of index `k`, where it has one.
+// The two lists beside one another, in no type: what holds them holds more, and would make it for each call.
 fn product_place(k: usize, stairs: &[Monomial], edges: &[Monomial], m: Monomial) -> Option<Place>
     requires stairs { length stairs.now ≤ numbered }
     requires edges { length edges.now ≤ numbered }
