@@ -8,7 +8,6 @@ use Rattle.evaluation.specs.Basis.{words, next, after_lines}
 use Rattle.evaluation.specs.Answer.{unread, asks_line, asks_lines, then}
 use Rattle.evaluation.specs.Steps.{LinePassed, LinesPassed, Walked}
 use Rattle.evaluation.specs.declared.fault.ProbeFault.{ProbeFault}
-use Rattle.evaluation.specs.declared.fault.ProbeFault.TheVariants.{Line}
 use Rattle.column.specs.declared.reader.Reader.{Reader}
 
 -- ---- a line that reads
@@ -33,14 +32,6 @@ module _ (old new : List ℕ) (p : Reader) where
   pub line_passed : (r : Result Reader LineFault) (q : Reader) → r ≡ Ok q → q.text.now ≡ p.text.now → byte_after r ≡ after_line p.text.now p.place.at (length old) → new ≡ taken_words p.text.now p.place.at old
       → q.place.line ≡ p.place.line + 1 → LinePassed (length old) p q new
   line_passed r q e same h k el = by_reading (reading_line (length old) (left p)) refl q same (sym (ap byte_after e) ∙ h) k el
-
-  -- and where it does not read, its fault
-  pub line_unread : (r : Result Reader LineFault) (f : LineFault) → r ≡ Err f → byte_after r ≡ after_line p.text.now p.place.at (length old) → asks_line (length old) (left p) p.place.line ≡ Some (Line f p.place.line)
-  line_unread r f e h = by_fault (reading_line (length old) (left p)) refl (sym (ap byte_after e) ∙ h)
-    where
-      by_fault : (r : Result (List ℕ) LineFault) → reading_line (length old) (left p) ≡ r → Err f ≡ results.result_map_both (λ _. p.place.at + line_length (length old)) (λ f. f) r → asks_line (length old) (left p) p.place.line ≡ Some (Line f p.place.line)
-      by_fault (Ok ws) e k = absurd (let z : ◌≡◌ {A = ℕ} 0 1 = cc in omega arith)
-      by_fault (Err g) e k = let s : f ≡ g = cc in ap (λ (r : Result (List ℕ) LineFault). unread r p.place.line) e ∙ ap (λ (x : LineFault). Some (Line x p.place.line)) (sym s)
 
 -- ---- a walk over k lines
 

@@ -56,19 +56,14 @@ module _ (n : ℕ) (ts : List Term) (start : List ℕ) (at : ℕ) where
 
   -- ---- a polynomial
 
-  pub polynomial_placed : (out new : List ℕ) (first end : ℕ) → at ≤ length start
-      → length (line (length ts ∷ [])) ≡ 12 → first ≡ at + 12 → out ≡ put start at (line (length ts ∷ []))
-      → length (flat_map (term_line n) (terms_of ts)) ≡ terms_size n (terms_of ts) → end ≡ first + terms_size n (terms_of ts) → new ≡ put out first (flat_map (term_line n) (terms_of ts))
-      → (length (polynomial_text n (terms_of ts)) ≡ polynomial_size n (terms_of ts)) × (end ≡ at + polynomial_size n (terms_of ts)) × (new ≡ put start at (polynomial_text n (terms_of ts)))
-  polynomial_placed out new first end room long after bytes longs ends news =
+  pub polynomial_placed : (out new : List ℕ) (first : ℕ) → at ≤ length start → length (line (length ts ∷ [])) ≡ 12 → first ≡ at + 12 → out ≡ put start at (line (length ts ∷ []))
+      → new ≡ put out first (flat_map (term_line n) (terms_of ts)) → new ≡ put start at (polynomial_text n (terms_of ts))
+  polynomial_placed out new first room long after bytes news =
       let count : List ℕ = line (length ts ∷ []) in
       let rest : List ℕ = flat_map (term_line n) (terms_of ts) in
       let text : count ++ rest ≡ polynomial_text n (terms_of ts) = ap (λ (k : ℕ). line (k ∷ []) ++ rest) (sym (length_terms ts)) in
-      let place : first ≡ at + length count = after ∙ ap (λ (k : ℕ). at + k) (sym long) in (
-        ap length (sym text) ∙ length-append count rest ∙ ap₂ (λ (a b : ℕ). a + b) long longs,
-        omega (arith, ends, after),
-        news ∙ ap₂ (λ (bs : List ℕ) (k : ℕ). put bs k rest) bytes place ∙ put_put start count rest at room ∙ ap (put start at) text,
-      )
+      let place : first ≡ at + length count = after ∙ ap (λ (k : ℕ). at + k) (sym long) in
+      news ∙ ap₂ (λ (bs : List ℕ) (k : ℕ). put bs k rest) bytes place ∙ put_put start count rest at room ∙ ap (put start at) text
 
 -- ---- polynomials
 
