@@ -9,6 +9,6 @@ mod place;
 mod reader;
 
 pub use line::{LineFault, read_line, write_line};
-pub use number::{read_column, write_column};
+pub use number::{WIDTH, read_column, write_column};
 pub use place::Place;
 pub use reader::Reader;

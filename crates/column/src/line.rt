@@ -18,7 +18,7 @@ pub enum LineFault {
 
 impl LineFault {
     // The number of the refusal.
-    // Like that of other faults in shape alone: each is a table of its own cases and numbers.
+    // Like those of other faults in shape alone: each is a table of its own cases and numbers.
     pub fn number(self) -> u32
         ensures { result ≡ fault_number self }
     {

@@ -5,7 +5,8 @@ ghost use Rattle.column.specs.Column.{column, reading, Reads};
 ghost use Rattle.column.specs.Front.{digit, longer, step};
 ghost use Rattle.column.specs.Place.{after, placed, put};
 
-pub(crate) const WIDTH: usize = 11;
+// The bytes of a column.
+pub const WIDTH: usize = 11;
 
 // The digit that a byte is.
 fn digit(byte: u8) -> Option<u32>

@@ -30,14 +30,10 @@ use Rattle.conversion.specs.Asked.{vector_words_asks, HasNoShape, Monic, FullLen
 use Rattle.conversion.specs.Rows.{Row}
 use Rattle.conversion.specs.Phases.{RowsWritten}
 use Rattle.conversion.specs.Answer.{closed_job, Converted}
-use Rattle.conversion.proofs.Overwriting.{row_ends, place_in}
+use Rattle.polynomials.proofs.Answering.{refused_first as first_refused}
+use Rattle.runs.proofs.Outputs.{place_in}
+use Rattle.staircase.proofs.Replacing.{before_column}
 use Rattle.conversion.proofs.Along.{independent_along, degree_along, apply_along, krylov_along, measured_along}
-
--- a list of questions is refused as its first ones are
-refused_more : (xs ys : List Question) (number line place : ℕ) → Refused xs number line place → Refused (xs ++ ys) number line place
-refused_more [] ys number line place x = absurd x
-refused_more (q ∷ xs) ys number line place (inl x) = inl x
-refused_more (q ∷ xs) ys number line place (inr x) = inr (x.0, refused_more xs ys number line place x.1)
 
 module _ (m : FieldMeaning) (laws : FieldLaws m) (cmp : Comparison) (O : OrderLaws cmp) (n : ℕ) (ps : List (List Term)) (S : Sound m laws cmp (closed_job n ps)) (t : Tables) (H : Holds m laws cmp n ps t) where
   abbrev F : Field (Elem m)
@@ -118,7 +114,7 @@ module _ (m : FieldMeaning) (laws : FieldLaws m) (cmp : Comparison) (O : OrderLa
     module _ (r c out : List ℕ) (fits : n * d ≤ length out) (M : Monic m laws d (sequence m laws cmp n ps k r) c) (R : (i : ℕ) → i < n → RowAt r c out i) where
       word_at : (i l : ℕ) → i < n → l < d → row m laws d (take (n * d) out) i l ≡ el m laws (get_or out (i * d + l) 0)
       word_at i l p q =
-          let inside : i * d + l < n * d = omega (arith, row_ends i n d p) in
+          let inside : i * d + l < n * d = omega (arith, before_column i n d p) in
           read_at m laws (take (n * d) out) (i * d + l) (omega (arith, length-take-le (n * d) out fits)) ∙ ap (el m laws) (get_or-take (n * d) out (i * d + l) 0 inside)
 
       word-elem : (i l : ℕ) → i < n → l < d → Dec (i ≡ k) → T (m.elem (get_or out (i * d + l) 0))
@@ -158,7 +154,7 @@ module _ (m : FieldMeaning) (laws : FieldLaws m) (cmp : Comparison) (O : OrderLa
   module _ (k : ℕ) (r : List ℕ) (room : ℕ) where
     pub refused_first : (f : JobFault) → Refused (vector_words_asks m (stair_count t) n k r room) (number_of f) 0 (place_of f) → Refused (vector_asks m laws cmp n ps k r room) (number_of f) 0 (place_of f)
     refused_first f x =
-        refused_more (vector_words_asks m d n k r room) (shape_ask m laws cmp n ps k ∷ table_ask m laws cmp n ps k r ∷ []) (number_of f) 0 (place_of f)
+        first_refused (vector_words_asks m d n k r room) (shape_ask m laws cmp n ps k ∷ table_ask m laws cmp n ps k r ∷ []) (number_of f) 0 (place_of f)
         (subst (λ (y : ℕ). Refused (vector_words_asks m y n k r room) (number_of f) 0 (place_of f)) H.size x)
 
     module _ (Y : AllYes (vector_words_asks m (stair_count t) n k r room)) where

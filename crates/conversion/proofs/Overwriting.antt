@@ -5,19 +5,6 @@ use borrow.Rule.Slice.PartMut.{put_mid}
 use Rattle.std.proofs.lemmas.Nat.{mul-le}
 use Rattle.std.proofs.lemmas.List.{places}
 
--- row i of n rows of d words ends within them
-pub row_ends : (i n d : ℕ) → i < n → i * d + d ≤ n * d
-row_ends i n d h = let k = mul-le (i + 1) d n d (omega arith) (omega arith) in omega (arith, add-mul i 1 d, one-mul d)
-
--- a place of n rows of d words is a place of one of them
-pub place_in : (n d x : ℕ) → x < n * d → (i : ℕ) × (l : ℕ) × (i < n) × (l < d) × (x ≡ i * d + l)
-place_in zero d x p = absurd (omega (arith, zero-mul d))
-place_in (suc n) d x p = go (place_in n d x) (dec_lt x (n * d))
-  where
-    go : (x < n * d → (i : ℕ) × (l : ℕ) × (i < n) × (l < d) × (x ≡ i * d + l)) → Dec (x < n * d) → (i : ℕ) × (l : ℕ) × (i < suc n) × (l < d) × (x ≡ i * d + l)
-    go f (yes q) = let y = f q in (y.0, y.1, omega (arith, y.2), y.3, y.4)
-    go f (no q) = (n, x - n * d, omega arith, omega (arith, suc-mul n d), omega arith)
-
 module _ (a k : ℕ) (xs ys : List ℕ) (fits : a + k ≤ length xs) (same : length ys ≡ k) where
   pub mid_length : length (put_mid a k xs ys) ≡ length xs
   mid_length = simp (length-append, length-take, length-drop) (omega arith)

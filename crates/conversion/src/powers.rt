@@ -12,10 +12,10 @@ use linear::dot::dot;
 use linear::step::Misfit;
 use tables::Tables;
 
-// How many words a vector has, of which the first count.
+// How many words a vector has, of which the first count. As many as the STRIDE of the columns of `tables`, and another thing.
 pub(crate) const WIDTH: usize = 48;
 
-// A vector, and room for the next one.
+// A vector, and room for the next one. Arrays and no lists: how many words count is the tables', and each step writes them all.
 #[derive(Drop)]
 pub(crate) struct Walk {
     pub(crate) vector: [u32; 48],
@@ -48,6 +48,7 @@ pub(crate) struct Matrices<'a, F> {
     ghost few: { n ≤ variables },
 }
 
+// Each step below may be refused, and ten contracts name by which tables: a job's table is what knows that they are ready.
 impl<'a, F: Field> Matrices<'a, F> {
     // Puts the matrix of x_k, counted from 0, to the vector.
     pub(crate) fn advance(&self, k: usize, walk: &mut Walk) -> Result<(), Misfit>

@@ -30,6 +30,7 @@ pub(crate) fn ask_vector<F: Field>(
     if r.len() != d {
         return Err(JobFault::VectorLength);
     }
+    // An `if let`, since what is found is refused: no method of Option makes an error of Some.
     if let Some(i) = matrices.field.first_no_element(r) {
         return Err(JobFault::VectorWord(i + 1));
     }

@@ -20,7 +20,7 @@ impl<'a, F: Field> Matrices<'a, F> {
         ensures fits { OnlyUnready self.now.tables.now self.now.n result }
         ensures raised { let m = F.Field.meaning self.now.field.now in let t = self.now.tables.now in OnOk result ((laws : FieldLaws m) (f : ℕ → Elem m) → Stands m (stair_count t) walk.old.vector f → Stands m (stair_count t) walk.new.vector (power m laws t k f e)) }
     {
-        // Over no items: each step takes the vector that the one before left.
+        // Over no items, as a fold over the range would be: each step takes the vector that the one before left.
         for _i in 0..e {
             self.advance(k, walk)?;
         }

@@ -34,6 +34,7 @@ fn answer_basis<F: Field>(
     let mut words = [0u32; 4];
     let point = &mut words[..n];
     let last = end.read(point)?;
+    // An `if let`, since what is found is refused: no method of Option makes an error of Some.
     if let Some(word) = field.first_no_element(point) {
         // `as`: there is no From<usize> for u32, and a place among four words is small.
         return Err(ProbeFault::Point(end.line(), word as u32 + 1));

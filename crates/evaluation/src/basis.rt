@@ -16,6 +16,7 @@ fn ask_terms<F: Field>(field: &F, terms: Terms<'_>, line: u32) -> Result<(), Pro
     ensures { refusal_of result ≡ asks_terms (F.Field.meaning field.now) terms.entry.n (terms_of terms.entry) line }
 {
     // `as`, here and below: there is no From<usize> for u32, and terms are counted by a u32.
+    // An `if let`, since what is found is refused: no method of Option makes an error of Some.
     if let Some(term) = first_bad_coefficient(field, terms) {
         return Err(ProbeFault::Coefficient(line, term as u32 + 1));
     }
@@ -58,7 +59,7 @@ pub(crate) fn ask_polynomials<'a, F: Field>(
         (λ e. asks_polynomials (F.Field.meaning field.now) reader.entry.n count (left reader.entry.here) reader.entry.here.place.line ≡ Some e) }
 {
     let mut here = reader;
-    // Over no items: the polynomials are only in the text, each where the one before ends.
+    // Over no items, as a fold over the range would be: each polynomial begins in the text where the one before ends.
     for _i in 0..count {
         here = ask_polynomial(field, here)?;
     }

@@ -9,7 +9,7 @@ fn raised<F: Field>(field: &F, x: u32, e: u32) -> u32
     ensures { result ≡ power (F.Field.meaning field.now) x e }
 {
     let mut product = field.one();
-    // Over no items: each turn is one factor more.
+    // Over no items, as a fold over the range would be: each turn is one factor more.
     for _i in 0..e {
         product = field.mul(product, x);
     }

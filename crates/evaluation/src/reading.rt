@@ -48,7 +48,7 @@ impl<'a> Reader<'a> {
     {
         let mut words = [0u32; 5];
         let mut here = self;
-        // Over no items: the lines are only in the text, each where the one before ends.
+        // Over no items, as a fold over the range would be: each line begins in the text where the one before ends.
         for _i in 0..count {
             here = here.read(&mut words[..=self.n])?;
         }

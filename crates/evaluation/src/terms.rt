@@ -3,7 +3,7 @@
 ghost use Rattle.std.specs.Prelude.{◌≡◌, ◌+◌, ◌≤◌, drop};
 ghost use Rattle.std.specs.Iterator.{YieldsFirst, at_most};
 
-use column::read_line;
+use column::{WIDTH, read_line};
 
 // The lines of a text from a byte on.
 #[derive(Clone, Copy)]
@@ -33,7 +33,7 @@ impl<'a> Lines<'a> {
         ensures rest { drop result.at result.text.now ≡ after_lines columns count (drop self.entry.at self.entry.text.now) }
     {
         // `as`: there is no From<u32> for usize, and no u32 is too large for one.
-        let bytes = count as usize * (11 * columns + 1);
+        let bytes = count as usize * (WIDTH * columns + 1);
         Lines {
             text: self.text,
             at: self.at.saturating_add(bytes),

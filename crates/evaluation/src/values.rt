@@ -41,7 +41,7 @@ pub(crate) fn write_values<F: Field>(
     let n = point.len();
     let mut lines = basis;
     let mut end = 0;
-    // Over no items: the polynomials are only in the text, each where the one before ends.
+    // Over no items, as a fold over the range would be: each polynomial begins in the text where the one before ends.
     for _i in 0..count {
         let left = lines.first(1)[0];
         let first = lines.after(1, 1);

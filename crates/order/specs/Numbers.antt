@@ -23,6 +23,9 @@ number_less x y h = grind (arith, nat_tests)
 pub number_lt : (x y : ℕ) → x < y → number x y ≡ Less
 number_lt x y h = grind (arith, nat_tests)
 
+pub number_gt : (x y : ℕ) → y < x → number x y ≡ Greater
+number_gt x y h = grind (arith, nat_tests)
+
 pub number_cmp : (x y : ℕ) → number x y ≡ nat_cmp x y
 number_cmp x y = grind (arith, nat_tests)
 

@@ -1,6 +1,7 @@
 -- DRL and LEX keep the laws of an order.
-use Rattle.std.specs.Prelude.{◌≡◌, ℕ, ◌<◌, ◌⊎◌, ◌↔◌}
+use Rattle.std.specs.Prelude.{◌≡◌, ℕ, ◌<◌, ◌⊎◌, ◌↔◌, refl}
 use Rattle.std.specs.declared.cmp.Ordering.TheVariants.{Less, Equal}
+use Rattle.std.specs.declared.cmp.Ordering.{Ordering}
 use Rattle.std.proofs.Common.{sym, ◌∙◌, ap, ap₂, inl, inr, arith}
 use Rattle.std.specs.Ordering.{ordering_reverse, ordering_then}
 use Rattle.order.specs.declared.monomial.Monomial.{Monomial}
@@ -55,6 +56,10 @@ drl_laws = laws_of drl (ranked_then (ranked_number degree) ranked_tie)
     (λ k l a b. ap₂ ordering_then (ap₂ number (degree_raise k l a) (degree_raise k l b) ∙ number_shifted 1 (degree a) (degree b)) (lowest_like variables (exponent (raise k b)) (exponent (raise k a)) (exponent b) (exponent a) (λ j q. number_raised k l b a j)))
     (λ k l a. ap (λ o. ordering_then o (lowest variables (exponent (raise k a)) (exponent a))) (number_lt (degree a) (degree (raise k a)) (omega (arith, degree_raise k l a))))
 
+pub drl_by_degree : (a b : Monomial) (x y : ℕ) → x ≡ degree a → y ≡ degree b → (o : Ordering) → number x y ≡ o → drl a b ≡ ordering_then o (lowest variables (exponent b) (exponent a))
+unfolding drl
+drl_by_degree a b x y p q o e = ap (λ r. ordering_then r (lowest variables (exponent b) (exponent a))) (ap₂ number (sym p) (sym q) ∙ e)
+
 -- ---- the two in the words of a relation
 
 pub lex_in_words : (a b : Monomial) → lex a b ≡ Less ↔ ((k : ℕ) × (k < variables) × (exponent a k < exponent b k) × ((j : ℕ) → k < j → j < variables → exponent a j ≡ exponent b j))
@@ -69,6 +74,6 @@ drl_in_words a b = (λ h. to (then_less _ _ h), from)
     to (inl e) = inl (number_less (degree a) (degree b) e)
     to (inr e) = inr (number_equal (degree a) (degree b) e.0, lowest_less_to variables (exponent b) (exponent a) e.1)
 
-    from : (degree a < degree b) ⊎ ((degree a ≡ degree b) × ((k : ℕ) × (k < variables) × (exponent b k < exponent a k) × ((j : ℕ) → j < k → exponent b j ≡ exponent a j))) → ordering_then (number (degree a) (degree b)) (lowest variables (exponent b) (exponent a)) ≡ Less
-    from (inl h) = ap (λ o. ordering_then o (lowest variables (exponent b) (exponent a))) (number_lt (degree a) (degree b) h)
-    from (inr h) = let t = h.1 in ap₂ ordering_then (number_same (degree a) (degree b) h.0) (lowest_less_from variables (exponent b) (exponent a) t.0 t.1 t.2 t.3)
+    from : (degree a < degree b) ⊎ ((degree a ≡ degree b) × ((k : ℕ) × (k < variables) × (exponent b k < exponent a k) × ((j : ℕ) → j < k → exponent b j ≡ exponent a j))) → drl a b ≡ Less
+    from (inl h) = drl_by_degree a b (degree a) (degree b) refl refl Less (number_lt (degree a) (degree b) h)
+    from (inr h) = let t = h.1 in drl_by_degree a b (degree a) (degree b) refl refl Equal (number_same (degree a) (degree b) h.0) ∙ lowest_less_from variables (exponent b) (exponent a) t.0 t.1 t.2 t.3

@@ -12,8 +12,8 @@ pub enum OrderFault {
     NoRearrangement,
 }
 
+// Like those of other faults in shape alone: each is a table of its own cases and numbers.
 impl OrderFault {
-    // Like that of other faults in shape alone: each is a table of its own cases and numbers.
     pub fn number(self) -> u32
         ensures { result ≡ def.number self }
     {

@@ -1,6 +1,6 @@
 // Monomials: a record of exponents, and what is read from it. `x1` is the exponent of variable 1, the
 // smallest variable; methods take a variable by its index, counted from 0, so that `x1` has index 0.
-// Nothing but this file and `rearrangement` knows how many exponents there are.
+// Beside this file, `rearrangement` and the term lines of `text` name the four exponents.
 ghost use Rattle.std.specs.Prelude.{◌≡◌, [], ◌∷◌};
 ghost use Rattle.order.specs.Monomials as def;
 
@@ -87,6 +87,7 @@ impl Monomial {
     }
 
     // Whether each exponent is at most that of `other`.
+    // By number, as in `is_power_of`: an exponent of a record has no other name.
     pub fn divides(self, other: Monomial) -> bool
         ensures { result ≡ def.divides self other }
     {

@@ -30,6 +30,7 @@ impl Rearrangement {
     }
 
     // Whether every place is in range, and no two are the same.
+    // By number, as in the functions below: a place of a record has no other name.
     pub fn is_rearrangement(self) -> bool
         ensures { result ≡ def.rearranges self }
     {

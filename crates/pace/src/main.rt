@@ -4,7 +4,7 @@
 #![tactic(auto)]
 
 use field::{ByteField, Field, Residue};
-use job::Job;
+use job::{Job, JobFault};
 use order::Drl;
 use std::io::Read;
 use std::{env, io};
@@ -40,16 +40,14 @@ fn closed<F: Field>(job: &mut Job<F, Drl>, n: usize, text: &[u8], turns: Turns) 
     size
 }
 
-// Converts so often, and answers the number of the last refusal, 0 where it was accepted.
-fn converted<F: Field>(job: &Job<F, Drl>, r: &[u32], times: u32) -> u32 {
+// Converts so often, and answers what the last call answered.
+fn converted<F: Field>(job: &Job<F, Drl>, r: &[u32], times: u32) -> Result<(), JobFault> {
     let mut out = [0; 192];
-    let mut number = 0;
+    let mut last = Ok(());
     for _i in 0..times {
-        number = job
-            .convert(1, r, &mut out)
-            .map_or_else(|fault| fault.number(), |()| 0);
+        last = job.convert(1, r, &mut out);
     }
-    number
+    last
 }
 
 fn run<F: Field + Drop>(
@@ -62,7 +60,8 @@ fn run<F: Field + Drop>(
     let mut job = Job::new(field, Drl);
     let size = closed(&mut job, n, text, turns);
     let r = &VECTOR[0..size.min(48)];
-    let number = converted(&job, r, turns.converts);
+    // The number of a refusal, 0 where there is none.
+    let number = converted(&job, r, turns.converts).map_or_else(|fault| fault.number(), |()| 0);
     println!(rt; "{size} {number}")
 }
 

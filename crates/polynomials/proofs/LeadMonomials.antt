@@ -28,6 +28,7 @@ use Rattle.runs.specs.Generators.{over_elements, generators}
 use Rattle.runs.specs.Close.{lead, HasPower, Undivided}
 use Rattle.runs.proofs.Entered.{Fine, fine_all, bounded}
 use Rattle.staircase.specs.Stairs.{Leading, stairs_of}
+use Rattle.staircase.proofs.Increasing as lists
 use Rattle.polynomials.specs.Leads.{lead_of, leads_of, lead_asks, not_one_ask, powers_ask, apart_ask, Apart}
 use Rattle.polynomials.proofs.Answering.{AllSame, each_same}
 
@@ -49,9 +50,6 @@ module _ (n : ℕ) (fits : n ≤ variables) where
 
   within_one : Within n one
   within_one k l = exponents.exponent_one k
-
-  pub nested_once : (a b : Monomial) → Within n a → Within n b → nested n a ≡ nested n b → a ≡ b
-  nested_once a b v w e = sym (keeps.forth a v) ∙ ap (flat n) e ∙ keeps.forth b w
 
   -- a record is a power of one variable where its monomial is
 
@@ -103,7 +101,7 @@ module _ (n : ℕ) (fits : n ≤ variables) where
     module _ (laws : FieldLaws m) where
       not-one-same : (i : ℕ) → i < length ps → (get_or (leads_of ps) i one ≢ one → lead m laws n ps i ≢ mono.one n) × (lead m laws n ps i ≢ mono.one n → get_or (leads_of ps) i one ≢ one)
       not-one-same i l = (
-        λ h e. h (nested_once _ one (at_within i l) within_one (sym (lead_is m laws ps i) ∙ e ∙ sym keeps.ones)),
+        λ h e. h (lists.nested_once n fits _ one (at_within i l) within_one (sym (lead_is m laws ps i) ∙ e ∙ sym keeps.ones)),
         λ h e. h (lead_is m laws ps i ∙ ap (nested n) e ∙ keeps.ones),
       )
 

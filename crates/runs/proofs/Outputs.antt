@@ -32,7 +32,7 @@ module _ {A : Type 0} where
       ∙ get_d_rows n d (λ i. f (suc i)) x i l (omega arith) q
 
 -- a place of n rows of d words is a place of one of them
-place_in : (n d x : ℕ) → x < n * d → (i : ℕ) × (l : ℕ) × (i < n) × (l < d) × (x ≡ i * d + l)
+pub place_in : (n d x : ℕ) → x < n * d → (i : ℕ) × (l : ℕ) × (i < n) × (l < d) × (x ≡ i * d + l)
 place_in zero d x p = absurd (omega (arith, zero-mul d))
 place_in (suc n) d x p = go (place_in n d x) (dec_lt x (n * d))
   where

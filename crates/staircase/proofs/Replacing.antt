@@ -95,7 +95,7 @@ module _ (d s : List ℕ) (at c : ℕ) (room : at + c ≤ length d) (len : lengt
   paste_above i h = get_or-append_right (take at d ++ take c s) (drop (at + c) d) (at + c) i 0 both h ∙ get_or-drop (at + c) d (i - (at + c)) 0 ∙ ap (λ (k : ℕ). get_or d k 0) (omega arith)
 
 -- a column ends before the next one begins
-before_column : (a b stride : ℕ) → a < b → a * stride + stride ≤ b * stride
+pub before_column : (a b stride : ℕ) → a < b → a * stride + stride ≤ b * stride
 before_column a b stride h = subst (λ (x : ℕ). x ≤ b * stride) (suc-mul a stride) (mul-le-mul_right {m = suc a} {n = b} stride h)
 
 pub column_more : ColumnMore

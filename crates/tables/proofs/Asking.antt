@@ -36,9 +36,6 @@ module _ (m : FieldMeaning) (laws : FieldLaws m) (cmp : Comparison) (O : OrderLa
   pub leads_refused : {A : Type 0} (r : Result A JobFault) (f : JobFault) → IsErrAnd r (λ e. e ≡ f) → Refused (lead_asks m laws n ps) (number_of f) 0 (place_of f) → Asked 0 (stairs_asks m laws cmp n ps) r
   leads_refused r f b x = asked_break 0 [] (lead_asks m laws n ps) (size_ask ∷ inside_ask m laws cmp n ps ∷ []) r f b tt x
 
-  pub leads_refused_not : (f : JobFault) → Refused (lead_asks m laws n ps) (number_of f) 0 (place_of f) → AllYes (stairs_asks m laws cmp n ps) → ⊥
-  leads_refused_not f x y = refused_not (lead_asks m laws n ps) (number_of f) 0 (place_of f) (yes_first (lead_asks m laws n ps) (size_ask ∷ inside_ask m laws cmp n ps ∷ []) y) x
-
   module _ (leads : List Monomial) (are : leads ≡ leads_of ps) (yes : AllYes (lead_asks m laws n ps)) where
     pub leads_lead : Leading n leads
     leads_lead = subst (Leading n) (sym are) (leading m laws cmp O n few ps en yes.1.0)

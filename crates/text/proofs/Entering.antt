@@ -21,6 +21,7 @@ use Rattle.text.specs.Clamped.{clamped_terms}
 use Rattle.text.specs.Steps.{LinePassed, LinesPassed}
 use Rattle.text.specs.Filling.{PolynomialPassed, PolynomialsWalked, PolynomialsPassed}
 use Rattle.text.proofs.Clamping.{length_clamped, clamped_accepted, clamped_refused}
+use Rattle.text.proofs.Walking.{one_less}
 
 -- questions after those that got a yes
 refused_rest : (xs ys : List Question) (number line place : ℕ) → AllYes xs → Refused (xs ++ ys) number line place → Refused ys number line place
@@ -129,9 +130,6 @@ module _ (m : FieldMeaning) (cmp : Comparison) where
             }
 
   -- ---- all polynomials
-
-  one_less : (k i : ℕ) → i < k → k - i ≡ suc (k - (i + 1))
-  one_less k i h = omega arith
 
   module _ (k : ℕ) (j : Job) (p : Reader) where
     module _ (i : ℕ) (j' : Job) (q : Reader) (h : i < k) (w : PolynomialsWalked m cmp k i j p j' q) where

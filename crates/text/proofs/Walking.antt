@@ -14,7 +14,7 @@ use Rattle.text.specs.Clamped.{clamped, clamped_terms}
 use Rattle.text.specs.declared.fault.TextFault.{TextFault}
 use Rattle.text.specs.Steps.{LinePassed, TermsRead, Walked}
 
-one_less : (k i : ℕ) → i < k → k - i ≡ suc (k - (i + 1))
+pub one_less : (k i : ℕ) → i < k → k - i ≡ suc (k - (i + 1))
 one_less k i h = omega arith
 
 module _ (c k : ℕ) (p : Reader) where

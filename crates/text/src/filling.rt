@@ -5,6 +5,7 @@ ghost use Rattle.std.specs.Result.{result_map_both};
 ghost use Rattle.runs.specs.Job.{opened};
 ghost use Rattle.runs.specs.Call as call;
 ghost use Rattle.runs.specs.Writing.{basis_text, field_code, order_code};
+ghost use Rattle.job.specs.Parts.{SameFieldAndOrder};
 ghost use Rattle.job.specs.State.{state};
 ghost use Rattle.job.specs.Promise.{Promised};
 ghost use Rattle.text.specs.declared.fault.TextFault.TheVariants as fault;
@@ -13,24 +14,22 @@ ghost use Rattle.text.specs.Filled.{Filled, answer_of};
 
 use crate::TextFault;
 use crate::first_line::header;
-use crate::layout::Layout;
+use crate::layout::{HEADER_LINE, Layout};
 use crate::reading::read_count;
 use column::{Place, Reader};
 use field::Field;
 use job::Job;
-use order::{Monomial, Order};
+use order::Order;
 use polynomials::{JobFault, Polynomials, Term};
 
 // The place of the line after the header.
-const AFTER_HEADER: Place = Place { at: 45, line: 2 };
-
-const NO_TERM: Term = Term {
-    coefficient: 0,
-    monomial: Monomial::ONE,
+const AFTER_HEADER: Place = Place {
+    at: HEADER_LINE,
+    line: 2,
 };
 
 // The answer of the job, with the line in the fault.
-fn in_line(answer: Result<(), JobFault>, line: usize) -> Result<(), TextFault>
+fn about_line(answer: Result<(), JobFault>, line: usize) -> Result<(), TextFault>
     ensures { result ≡ result_map_both (λ x. x) (λ f. fault.Job f line) answer }
 {
     answer.map_err(|fault| TextFault::Job(fault, line))
@@ -45,14 +44,14 @@ fn fill_polynomial<'a, F: Field, O: Order>(
 ) -> Result<Reader<'a>, TextFault>
     requires { (state job.old.table).stage ≡ opened }
     ensures entered { PolynomialEntered (F.Field.meaning job.old.field) (O.Order.meaning job.old.order) (state job.old.table) reader.entry (state job.new.table) result }
-    ensures same_field_and_order { (job.new.field ≡ job.old.field) × (job.new.order ≡ job.old.order) }
+    ensures same_field_and_order { SameFieldAndOrder job.old job.new }
 {
     let line = reader.place.line;
     let (count, first) = read_count(reader)?;
-    in_line(job.ask_room(count), line)?;
+    about_line(job.ask_room(count), line)?;
     let layout = Layout { n: job.variables() };
     let end = layout.read_terms(first, &mut terms[..count])?;
-    in_line(job.enter(&terms[..count]), line)?;
+    about_line(job.enter(&terms[..count]), line)?;
     Ok(end)
 }
 
@@ -65,10 +64,10 @@ fn fill_polynomials<'a, F: Field, O: Order>(
 ) -> Result<Reader<'a>, TextFault>
     requires { (state job.old.table).stage ≡ opened }
     ensures entered { PolynomialsEntered (F.Field.meaning job.old.field) (O.Order.meaning job.old.order) count (state job.old.table) reader.entry (state job.new.table) result }
-    ensures same_field_and_order { (job.new.field ≡ job.old.field) × (job.new.order ≡ job.old.order) }
+    ensures same_field_and_order { SameFieldAndOrder job.old job.new }
 {
     let mut here = reader;
-    // Over no items: the polynomials are only in the text, each where the one before ends.
+    // Over no items, as a fold over the range would be: each polynomial begins in the text where the one before ends.
     for _i in 0..count {
         here = fill_polynomial(job, here, terms)?;
     }
@@ -81,7 +80,7 @@ pub fn fill<F: Field, O: Order>(job: &mut Job<F, O>, bytes: &[u8]) -> Result<usi
     ensures filled { Filled (F.Field.meaning job.old.field) (O.Order.meaning job.old.order) bytes.now (state job.old.table) (state job.new.table) result }
     ensures promised { Promised (F.Field.meaning job.old.field) (O.Order.meaning job.old.order) job.old.table (call.fill bytes.now) (answer_of result) job.new.table }
     ensures written_again { IfOk result (λ size. take size bytes.now ≡ basis_text (field_code bytes.now) (order_code bytes.now) (state job.new.table).n (state job.new.table).polynomials) }
-    ensures same_field_and_order { (job.new.field ≡ job.old.field) × (job.new.order ≡ job.old.order) }
+    ensures same_field_and_order { SameFieldAndOrder job.old job.new }
 {
     if !job.is_new() {
         return Err(TextFault::NotEmpty);
@@ -95,7 +94,7 @@ pub fn fill<F: Field, O: Order>(job: &mut Job<F, O>, bytes: &[u8]) -> Result<usi
         text: bytes,
         place: AFTER_HEADER,
     };
-    let mut terms = [NO_TERM; Polynomials::MOST_TERMS];
+    let mut terms = [Term::default(); Polynomials::MOST_TERMS];
     // By cases: a refusal takes the polynomials before it out again.
     match fill_polynomials(job, first, count, &mut terms) {
         Ok(end) => Ok(end.place.at),

@@ -2,6 +2,11 @@
 ghost use Rattle.std.specs.Prelude.{◌≤◌};
 ghost use Rattle.order.specs.Monomials.{variables};
 
+use column::WIDTH;
+
+// The bytes of the header.
+pub(crate) const HEADER_LINE: usize = 4 * WIDTH + 1;
+
 // A line has a column for the coefficient and one for the exponent of each variable.
 #[derive(Clone, Copy)]
 pub(crate) struct Layout {

@@ -21,6 +21,7 @@ fn clamp(word: u32) -> u8
     u8::try_from(word).unwrap_or(Monomial::LARGEST)
 }
 
+#[tactic(auto, unfolding(order::specs::Monomials::exponent, order::specs::Monomials::monomial))]
 pub(crate) fn term_of(words: &[u32]) -> Term
     ensures { (result.coefficient, result.monomial) ≡ clamped (term words.now) }
 {

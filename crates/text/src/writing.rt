@@ -15,19 +15,15 @@ ghost use Rattle.text.specs.declared.fault.TextFault.TheVariants as fault;
 ghost use Rattle.text.specs.Written.{Wrote, ReadsBack, Words, AllWords, term_words, sizes, terms_size, polynomial_size, text_size};
 
 use crate::TextFault;
-use crate::layout::Layout;
-use column::write_line;
+use crate::layout::{HEADER_LINE, Layout};
+use column::{WIDTH, write_line};
 use field::Field;
 use job::Job;
 use order::{Monomial, Order};
 use polynomials::{JobFault, Polynomials, Term};
 
-// The bytes of a line of one column, of four, and of a column.
-const COUNT_LINE: usize = 12;
-
-const HEADER_LINE: usize = 45;
-
-const COLUMN: usize = 11;
+// The bytes of a line of one column.
+const COUNT_LINE: usize = WIDTH + 1;
 
 // Writes the line of the words at a place that has room for it, and answers the place after it.
 fn put_line(out: &mut [u8], at: usize, words: &[u32]) -> usize
@@ -61,7 +57,7 @@ impl Layout {
     fn text_length(self, polynomials: &Polynomials) -> usize
         ensures { result ≡ text_size self.n (held polynomials.now) }
     {
-        let term_line = COLUMN * (self.n + 1) + 1;
+        let term_line = WIDTH * (self.n + 1) + 1;
         let mut length = HEADER_LINE;
         for terms in polynomials.iter() {
             length += COUNT_LINE + terms.len() * term_line;

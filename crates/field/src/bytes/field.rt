@@ -26,6 +26,7 @@ impl Field for ByteField {
         1
     }
 
+    // The same test before `mul`, and in the other field: a function of both would take the operation as a closure.
     fn add(&self, a: u32, b: u32) -> u32 {
         if self.contains(a) && self.contains(b) {
             a ^ b
@@ -47,6 +48,7 @@ impl Field for ByteField {
     }
 
     fn inverse(&self, a: u32) -> Option<u32> {
+        // Not `is_nonzero_element`: from a method of the trait itself the borrow checker follows no call back to this block.
         (self.contains(a) && a != 0).then(|| power(a))
     }
 }

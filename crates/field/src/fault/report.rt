@@ -9,8 +9,8 @@ const FIELD_LAYER: u32 = 1;
 
 const NO_PLACE: u32 = 0;
 
+// Like those of other faults in shape alone: each is a table of its own cases and numbers.
 impl FieldFault {
-    // Like that of other faults in shape alone: each is a table of its own cases and numbers.
     pub fn number(self) -> u32
         ensures { result ≡ number_of self }
     {

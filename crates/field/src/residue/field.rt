@@ -55,6 +55,7 @@ impl Field for Residue {
     }
 
     fn inverse(&self, a: u32) -> Option<u32> {
+        // Not `is_nonzero_element`: from a method of the trait itself the borrow checker follows no call back to this block.
         (self.contains(a) && a != 0).then(|| inverse_modulo(self.p, a))
     }
 }

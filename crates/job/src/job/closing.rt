@@ -1,6 +1,7 @@
 // Close: the call that works out the tables of a job and closes it.
 ghost use Rattle.std.specs.Prelude.{◌≡◌, [], ◌∷◌, OnErr};
 ghost use Rattle.runs.specs.Call as call;
+ghost use Rattle.job.specs.Parts.{SameFieldAndOrder};
 ghost use Rattle.job.specs.Promise.{answer_of, Promised};
 
 use crate::{Job, JobFault};
@@ -13,7 +14,7 @@ impl<F: Field, O: Order> Job<F, O> {
     pub fn close(&mut self) -> Result<usize, JobFault>
         ensures promised { Promised (F.Field.meaning self.old.field) (O.Order.meaning self.old.order) self.old.table call.close (answer_of (λ d. d ∷ []) result) self.new.table }
         ensures refused_as_was { OnErr result (self.new ≡ self.old) }
-        ensures same_field_and_order { (self.new.field ≡ self.old.field) × (self.new.order ≡ self.old.order) }
+        ensures same_field_and_order { SameFieldAndOrder self.old self.new }
     {
         self.table.ask_open()?;
         let tables = Tables::make(

@@ -7,6 +7,7 @@ ghost use Rattle.runs.specs.Enter.{room_asks, enter_asks};
 ghost use Rattle.field.specs.Meaning.{FieldLaws};
 ghost use Rattle.runs.specs.Job as def;
 ghost use Rattle.runs.specs.Run.{open_asks};
+ghost use Rattle.job.specs.Parts.{SameFieldAndOrder};
 ghost use Rattle.job.specs.State.{state, Kept};
 ghost use Rattle.job.specs.Promise.{answer_of, Promised};
 
@@ -22,7 +23,7 @@ impl<F: Field, O: Order> Job<F, O> {
         ensures asked { Asked 0 (open_asks n) result }
         ensures opened { elim result [ Ok _ ↦ state self.new.table ≡ def.new n | Err _ ↦ self.new ≡ self.old ] }
         ensures kept { OnOk result ((laws : FieldLaws (F.Field.meaning self.old.field)) → Kept (F.Field.meaning self.old.field) laws (O.Order.meaning self.old.order) self.new.table) }
-        ensures same_field_and_order { (self.new.field ≡ self.old.field) × (self.new.order ≡ self.old.order) }
+        ensures same_field_and_order { SameFieldAndOrder self.old self.new }
     {
         if !(1..=Monomial::VARIABLES).contains(&n) {
             return Err(JobFault::Variables);
@@ -35,7 +36,7 @@ impl<F: Field, O: Order> Job<F, O> {
     pub fn clear(&mut self)
         ensures cleared { state self.new.table ≡ def.new (state self.old.table).n }
         ensures kept { (laws : FieldLaws (F.Field.meaning self.old.field)) → Kept (F.Field.meaning self.old.field) laws (O.Order.meaning self.old.order) self.new.table }
-        ensures same_field_and_order { (self.new.field ≡ self.old.field) × (self.new.order ≡ self.old.order) }
+        ensures same_field_and_order { SameFieldAndOrder self.old self.new }
     {
         self.table = Table::new(self.table.n);
     }
@@ -61,7 +62,7 @@ impl<F: Field, O: Order> Job<F, O> {
         ensures asked { Asked 0 (enter_asks (F.Field.meaning self.old.field) (O.Order.meaning self.old.order) (state self.old.table) (terms_of terms.now)) result }
         ensures entered { elim result [ Ok _ ↦ state self.new.table ≡ def.holding (state self.old.table) (terms_of terms.now ∷ []) | Err _ ↦ self.new ≡ self.old ] }
         ensures promised { Promised (F.Field.meaning self.old.field) (O.Order.meaning self.old.order) self.old.table (call.enter (terms_of terms.now)) (answer_of (λ _. []) result) self.new.table }
-        ensures same_field_and_order { (self.new.field ≡ self.old.field) × (self.new.order ≡ self.old.order) }
+        ensures same_field_and_order { SameFieldAndOrder self.old self.new }
     {
         self.ask_enter(terms)?;
         self.table.polynomials.push(terms).unwrap();

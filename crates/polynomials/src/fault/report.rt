@@ -8,6 +8,7 @@ use std::fmt;
 
 const JOB_LAYER: u32 = 2;
 
+// Like those of other faults in shape alone: each is a table of its own cases and numbers.
 impl JobFault {
     pub fn number(self) -> u32
         ensures { result ≡ number_of self }

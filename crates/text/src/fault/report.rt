@@ -1,4 +1,4 @@
-// What a fault of a text reports: number, layer, line and place; and where a job's fault gets its line.
+// What a fault of a text reports: number, layer, line and place; and the fault of a job with another line.
 ghost use Rattle.std.specs.Prelude.{◌≡◌};
 ghost use Rattle.text.specs.Faults.{number_of, layer_of, line_of, place_of, in_line};
 

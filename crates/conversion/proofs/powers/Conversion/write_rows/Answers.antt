@@ -6,7 +6,8 @@ use Rattle.algebra.specs.Elements.{Elem}
 use Rattle.linear.specs.Elimination.{Table}
 use Rattle.conversion.specs.Powers.{Stands}
 use Rattle.conversion.specs.Rows.{Row}
-use Rattle.conversion.proofs.Overwriting.{row_ends, mid_below, mid_in, part_length}
+use Rattle.staircase.proofs.Replacing.{before_column}
+use Rattle.conversion.proofs.Overwriting.{mid_below, mid_in, part_length}
 use Rattle.conversion.proofs.Solving.{row_along}
 use Rattle.conversion.proofs.powers.Conversion.write_rows.Goals as goal
 
@@ -17,7 +18,7 @@ loop-i-preserved g c =
     let d = c.size-d.result in
     let n = c.args.self.now.matrices.n in
     let k = c.args.self.now.k in
-    let ends = row_ends i n d c.loop-i-test.true in
+    let ends = before_column i n d c.loop-i-test.true in
     let w : ℕ = i * d + d - i * d in
     let wd : w ≡ d = omega arith in
     let all : n * d ≤ length c.args.out.now = subst (λ (x : ℕ). n * x ≤ length c.args.out.now) (sym c.size-d.ensures) c.requires in
@@ -31,7 +32,7 @@ loop-i-preserved g c =
       c.write_row.ensures.pivots_unchanged ∙ c.loop-i.invariant.2,
       below_more _ _
           (λ r h laws v b G st. row_along m laws d v c.args.connection.now (b r) r k (λ l. get_or c.loop-i.out (r * d + l) 0) (λ l. get_or (put_mid (i * d) w c.loop-i.out ys) (r * d + l) 0)
-          (λ l q. mid_below (i * d) w c.loop-i.out ys fits same (r * d + l) (omega (arith, row_ends r i d h)))
+          (λ l q. mid_below (i * d) w c.loop-i.out ys fits same (r * d + l) (omega (arith, before_column r i d h)))
           (c.loop-i.invariant.3 r h laws v b G st))
           (λ laws v b G st. row_along m laws d v c.args.connection.now (b i) i k (λ l. get_or ys l 0) (λ l. get_or (put_mid (i * d) w c.loop-i.out ys) (i * d + l) 0)
           (λ l q. mid_in (i * d) w c.loop-i.out ys fits same l (omega arith))
