@@ -64,6 +64,7 @@ def flags():
     yield from found(r'^\s*(?:None|Some\([^)]*\)|Err\([^_)]*\)) => (?:return )?Err\([^,]*\)(?:,|;)')
     yield from found(r'\bif [^{};]*\{\s*Some\([^{};]*\)\s*\} else \{\s*None\s*\}')
     yield from found(r'^\s*\[\] => [^,]*,')
+    yield from found(r'\bif let (?:Some|Ok|Err)\([^=]*\) = [^{]*\{\s*return (?:Err|None|false)[^;]*;')
 
 
 def twins():
@@ -136,7 +137,8 @@ def repeated():
                 facts[kind, re.sub(r'\b(?:self|entry)\.|\.entry\b', '', part.strip('() ').replace('.old', '.now').replace('.new', '.now'))].add(where)
         lists[where] = frozenset(re.findall(r'(\w+): (?:&|usize|u32|Place)', parameters))
     for (kind, fact), places in sorted(facts.items()):
-        if len(places) >= 3 and (kind == 'requires' or len(fact) > 45):
+        named = kind == 'ensures' and re.match(r'[A-Z]\w* [^→×≡]*$', fact)
+        if len(places) >= 3 and (kind == 'requires' or len(fact) > 25) and not named:
             yield f'{len(places)} contracts {"require" if kind == "requires" else "ensure"}: {fact}'
     groups = {a & b for a in lists.values() for b in lists.values()} | set(lists.values())
     for group in sorted(groups, key=sorted):
@@ -150,7 +152,7 @@ def buffers():
         if re.search(r'\[(?:Monomial|Term|u32|u8|usize)\]', parameters) and re.search(r'\b(?:count|d|size): usize', parameters):
             yield f'{name}:{line}: fn {function} takes words and how many of them count'
     yield from found(r'^    (?:count|size): usize,\n(?:    .*\n)*?    \w+: \[.*')
-    yield from found(r'^    \w+: \[\w+; \d+\],\n    \w+: \[\w+; \d+\],')
+    yield from found(r'^    (?:pub(?:\(\w+\))? )?\w+: \[.*; \w+\],\n    (?:pub(?:\(\w+\))? )?\w+: \[.*; \w+\],')
 
 
 def switches():
