@@ -77,13 +77,11 @@ impl<'a, F: Field> Conversion<'a, F> {
         i: usize,
         connection: &[u32; 97],
         side: &[u32; 48],
-        echelon: &mut Echelon<48>,
+        echelon: &Echelon<48>,
         out: &mut [u32],
     )
         requires { length out.old ≤ width }
-        ensures rows_unchanged { echelon.new.rows ≡ echelon.old.rows }
-        ensures pivots_unchanged { echelon.new.pivots ≡ echelon.old.pivots }
-        ensures row { let m = F.Field.meaning self.now.matrices.field.now in let d = length out.old in (laws : FieldLaws m) (v : ℕ → ℕ → Elem m) (b : ℕ → Elem m) → elimination.Table m laws d d v echelon.old.rows echelon.old.pivots → (i ≢ self.now.k → Stands m d side.now b) → Row m laws d v connection.now b i self.now.k (λ l. slice_index out.new l) }
+        ensures { let m = F.Field.meaning self.now.matrices.field.now in let d = length out.old in (laws : FieldLaws m) (v : ℕ → ℕ → Elem m) (b : ℕ → Elem m) → elimination.Table m laws d d v echelon.now.rows echelon.now.pivots → (i ≢ self.now.k → Stands m d side.now b) → Row m laws d v connection.now b i self.now.k (λ l. slice_index out.new l) }
     {
         if i == self.k {
             put_backwards(connection, out);
@@ -98,12 +96,12 @@ impl<'a, F: Field> Conversion<'a, F> {
         &self,
         connection: &[u32; 97],
         sides: &[[u32; 48]; 4],
-        echelon: &mut Echelon<48>,
+        echelon: &Echelon<48>,
         out: &mut [u32],
     )
         requires { self.now.matrices.n * stair_count self.now.matrices.tables.now ≤ length out.old }
         ensures rest_unchanged { let size = self.now.matrices.n * stair_count self.now.matrices.tables.now in drop size out.new ≡ drop size out.old }
-        ensures rows { let m = F.Field.meaning self.now.matrices.field.now in let d = stair_count self.now.matrices.tables.now in (laws : FieldLaws m) (v : ℕ → ℕ → Elem m) (b : ℕ → ℕ → Elem m) → elimination.Table m laws d d v echelon.old.rows echelon.old.pivots → ((i : ℕ) → i < self.now.matrices.n → i ≢ self.now.k → Stands m d (slice_index_or sides.now i []) (b i)) → (i : ℕ) → i < self.now.matrices.n → Row m laws d v connection.now (b i) i self.now.k (λ l. slice_index out.new (i * d + l)) }
+        ensures rows { let m = F.Field.meaning self.now.matrices.field.now in let d = stair_count self.now.matrices.tables.now in (laws : FieldLaws m) (v : ℕ → ℕ → Elem m) (b : ℕ → ℕ → Elem m) → elimination.Table m laws d d v echelon.now.rows echelon.now.pivots → ((i : ℕ) → i < self.now.matrices.n → i ≢ self.now.k → Stands m d (slice_index_or sides.now i []) (b i)) → (i : ℕ) → i < self.now.matrices.n → Row m laws d v connection.now (b i) i self.now.k (λ l. slice_index out.new (i * d + l)) }
     {
         let d = self.matrices.tables.size();
         // By index: of words that were written through chunks_mut a proof knows only how many they are.

@@ -90,7 +90,7 @@ impl Work {
     {
         let sides = by.right_sides(&mut self.walk)?;
         by.take_table(&self.sequence, &mut self.echelon);
-        by.write_rows(&self.connection, &sides, &mut self.echelon, out);
+        by.write_rows(&self.connection, &sides, &self.echelon, out);
         Ok(())
     }
 }

@@ -78,47 +78,58 @@ impl<const ROWS: usize> Echelon<ROWS> {
         }
     }
 
-    // Reduces the first `width` words of the work row by the first `count` rows: after each it is zero
-    // at that row's pivot.
-    fn reduce<F: Field>(&mut self, field: &F, count: usize, width: usize)
+    // Rows and pivots of a caller's own, to solve over.
+    pub fn of(rows: [[u32; PITCH]; ROWS], pivots: [usize; ROWS]) -> Echelon<ROWS>
+        ensures rows { result.rows ≡ rows.entry }
+        ensures pivots { result.pivots ≡ pivots.entry }
+        ensures work { result.work ≡ replicate pitch 0 }
+    {
+        // A proof is told how long an array is that a function is given, and not one in an array.
+        for row in &rows {
+            rows::tell_width(row);
+        }
+        Echelon {
+            rows,
+            pivots,
+            work: [0; PITCH],
+        }
+    }
+
+    // Reduces the first `width` words of a row by the first `count` rows: after each it is zero at that
+    // row's pivot.
+    fn reduce<F: Field>(&self, field: &F, count: usize, width: usize, work: &mut [u32; PITCH])
         requires rows { count ≤ ROWS }
         requires width { width ≤ pitch }
-        requires within { Below width count self.old.pivots }
-        ensures rows { self.new.rows ≡ self.old.rows }
-        ensures pivots { self.new.pivots ≡ self.old.pivots }
-        ensures reduced { Reduced (F.Field.meaning field.now) self.old.rows self.old.pivots count (λ j. slice_index self.old.work j) width self.new.work }
+        requires within { Below width count self.now.pivots }
+        ensures { Reduced (F.Field.meaning field.now) self.now.rows self.now.pivots count (λ j. slice_index work.old j) width work.new }
     {
-        let work = &mut self.work;
         for (pivot, above) in self.pivots[..count].iter().zip(&self.rows) {
             let q = field.neg(work[*pivot]);
             add_multiple(field, q, &above[..width], work);
         }
     }
 
-    // Writes into the work row what the first `count` rows leave of a vector, and after it, up to
-    // `width` words, the coordinates of what they added to it. Answers the first place where something
-    // is left.
-    // `count` is of rows of its own, and `width` of words of the row to work in: no slice lends either.
+    // What the first `count` rows leave of a vector, and after it, up to `width` words, the coordinates
+    // of what they added to it.
+    // `count` is of rows of its own, and `width` of words of the answer: no slice lends either.
     fn remainder<F: Field>(
-        &mut self,
+        &self,
         field: &F,
         count: usize,
         vector: &[u32],
         width: usize,
-    ) -> Option<usize>
+    ) -> [u32; PITCH]
         requires width { width ≤ pitch }
         requires room { length vector.now ≤ width }
         requires rows { count ≤ ROWS }
-        requires within { Below (length vector.now) count self.old.pivots }
-        ensures rows { self.new.rows ≡ self.old.rows }
-        ensures pivots { self.new.pivots ≡ self.old.pivots }
-        ensures work { length self.new.work ≡ pitch }
-        ensures left { Reduced (F.Field.meaning field.now) self.old.rows self.old.pivots count (λ j. slice_index_or vector.now j (F.Field.meaning field.now).zero) width self.new.work }
-        ensures place { FirstNonzero (F.Field.meaning field.now) (length vector.now) self.new.work result }
+        requires within { Below (length vector.now) count self.now.pivots }
+        ensures work { length result ≡ pitch }
+        ensures left { Reduced (F.Field.meaning field.now) self.now.rows self.now.pivots count (λ j. slice_index_or vector.now j (F.Field.meaning field.now).zero) width result }
     {
-        rows::begin(field, &mut self.work, vector);
-        self.reduce(field, count, width);
-        rows::first_nonzero(field, &self.work, vector.len())
+        let mut work = [0; PITCH];
+        rows::begin(field, &mut work, vector);
+        self.reduce(field, count, width, &mut work);
+        work
     }
 
     // Takes the vector n of a family after those before it.
@@ -134,9 +145,9 @@ impl<const ROWS: usize> Echelon<ROWS> {
         let start = n * family.stride;
         let vector = &family.words[start..start + family.places];
         let width = family.places + family.count;
-        let place = self
-            .remainder(field, n, vector, width)
-            .ok_or(EliminateFault::Depends(n))?;
+        self.work = self.remainder(field, n, vector, width);
+        let left = rows::first_nonzero(field, &self.work, vector.len());
+        let place = left.ok_or(EliminateFault::Depends(n))?;
         let q = field
             .inverse(self.work[place])
             .ok_or(EliminateFault::NoRoom)?;
@@ -173,27 +184,25 @@ impl<const ROWS: usize> Echelon<ROWS> {
     // Writes into `out` the coefficients by which the vectors that an elimination took combine to the
     // vector given, one for each word of `out`.
     pub fn solve<F: Field>(
-        &mut self,
+        &self,
         field: &F,
         vector: &[u32],
         out: &mut [u32],
     ) -> Result<(), SolveFault>
-        ensures refused { solvable (length vector.now) (length out.old) ROWS self.old.pivots ≡ false → IsErrOf result SolveFault.NoRoom × (self.new.work ≡ self.old.work) }
-        ensures answered { solvable (length vector.now) (length out.old) ROWS self.old.pivots ≡ true → result ≢ Err SolveFault.NoRoom }
+        ensures refused { solvable (length vector.now) (length out.old) ROWS self.now.pivots ≡ false → IsErrOf result SolveFault.NoRoom }
+        ensures answered { solvable (length vector.now) (length out.old) ROWS self.now.pivots ≡ true → result ≢ Err SolveFault.NoRoom }
         ensures unwritten { OnErr result (out.new ≡ out.old) }
-        ensures rows { self.new.rows ≡ self.old.rows }
-        ensures pivots { self.new.pivots ≡ self.old.pivots }
-        ensures solved { roomy (length vector.now) (length out.old) ROWS ≡ true → (laws : FieldLaws (F.Field.meaning field.now)) (v : ℕ → ℕ → Elem (F.Field.meaning field.now)) → Elems (F.Field.meaning field.now) vector.now → Table (F.Field.meaning field.now) laws (length vector.now) (length out.old) v self.old.rows self.old.pivots → Solved (F.Field.meaning field.now) laws (length vector.now) (length out.old) v vector.now out.new result }
+        ensures solved { roomy (length vector.now) (length out.old) ROWS ≡ true → (laws : FieldLaws (F.Field.meaning field.now)) (v : ℕ → ℕ → Elem (F.Field.meaning field.now)) → Elems (F.Field.meaning field.now) vector.now → Table (F.Field.meaning field.now) laws (length vector.now) (length out.old) v self.now.rows self.now.pivots → Solved (F.Field.meaning field.now) laws (length vector.now) (length out.old) v vector.now out.new result }
     {
         let count = out.len();
         if !self.is_solvable(vector.len(), count) {
             return Err(SolveFault::NoRoom);
         }
-        let left = self.remainder(field, count, vector, vector.len() + count);
-        if left.is_some() {
+        let row = self.remainder(field, count, vector, vector.len() + count);
+        if rows::first_nonzero(field, &row, vector.len()).is_some() {
             return Err(SolveFault::Outside);
         }
-        rows::opposites(field, &self.work, vector.len(), out);
+        rows::opposites(field, &row, vector.len(), out);
         Ok(())
     }
 }

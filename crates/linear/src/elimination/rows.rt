@@ -7,6 +7,11 @@ use field::Field;
 // The words of one row.
 pub const PITCH: usize = 96;
 
+// Says how wide a row is.
+pub(super) fn tell_width(row: &[u32; PITCH])
+    ensures { length row.now ≡ pitch }
+{}
+
 // Writes the vector into the row, and zero into the words after it.
 pub(super) fn begin<F: Field>(field: &F, row: &mut [u32], vector: &[u32])
     requires { length vector.now ≤ length row.old }

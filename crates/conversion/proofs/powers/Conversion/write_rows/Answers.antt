@@ -1,8 +1,6 @@
-use Rattle.std.proofs.Common.{◌≡◌, ℕ, ◌+◌, ◌-◌, ◌*◌, ◌<◌, ◌≤◌, ◌≢◌, [], List, length, get_or, take, drop, sym, ◌∙◌, subst, arith, below_more}
+use Rattle.std.proofs.Common.{◌≡◌, ℕ, ◌+◌, ◌-◌, ◌*◌, ◌<◌, ◌≤◌, ◌≢◌, [], length, get_or, take, drop, sym, ◌∙◌, subst, arith, below_more}
 use borrow.Rule.Slice.PartMut.{put_mid}
 use Rattle.std.proofs.lemmas.Slice.{drop-put_mid}
-use Rattle.field.specs.Meaning.{FieldLaws}
-use Rattle.algebra.specs.Elements.{Elem}
 use Rattle.linear.specs.Elimination.{Table}
 use Rattle.conversion.specs.Powers.{Stands}
 use Rattle.conversion.specs.Rows.{Row}
@@ -25,18 +23,15 @@ loop-i-preserved g c =
     let fits : i * d + w ≤ length c.loop-i.out = omega arith in
     let ys = c.write_row.new.out in
     let part : length (take w (drop (i * d) c.loop-i.out)) ≡ d = part_length (i * d) w c.loop-i.out fits ∙ wd in
-    let here : (laws : FieldLaws m) (v : ℕ → ℕ → Elem m) → Table m laws d d v c.args.echelon.now.rows c.args.echelon.now.pivots → Table m laws d d v c.loop-i.echelon.rows c.loop-i.echelon.pivots = λ laws v G. subst (λ (ps : List ℕ). Table m laws d d v c.loop-i.echelon.rows ps) (sym c.loop-i.invariant.2) (subst (λ (rows : List (List ℕ)). Table m laws d d v rows c.args.echelon.now.pivots) (sym c.loop-i.invariant.1) G) in
     let same : length ys ≡ w = c.write_row.auto.out ∙ part ∙ sym wd in (
       drop-put_mid (i * d) w c.loop-i.out ys (n * d) (omega arith) (omega arith) same ∙ c.loop-i.invariant.0,
-      c.write_row.ensures.rows_unchanged ∙ c.loop-i.invariant.1,
-      c.write_row.ensures.pivots_unchanged ∙ c.loop-i.invariant.2,
       below_more _ _
           (λ r h laws v b G st. row_along m laws d v c.args.connection.now (b r) r k (λ l. get_or c.loop-i.out (r * d + l) 0) (λ l. get_or (put_mid (i * d) w c.loop-i.out ys) (r * d + l) 0)
           (λ l q. mid_below (i * d) w c.loop-i.out ys fits same (r * d + l) (omega (arith, before_column r i d h)))
-          (c.loop-i.invariant.3 r h laws v b G st))
+          (c.loop-i.invariant.1 r h laws v b G st))
           (λ laws v b G st. row_along m laws d v c.args.connection.now (b i) i k (λ l. get_or ys l 0) (λ l. get_or (put_mid (i * d) w c.loop-i.out ys) (i * d + l) 0)
           (λ l q. mid_in (i * d) w c.loop-i.out ys fits same l (omega arith))
-          (subst (λ (x : ℕ). Row m laws x v c.args.connection.now (b i) i k (λ l. get_or ys l 0)) part (c.write_row.ensures.row laws v (b i) (subst (λ (x : ℕ). Table m laws x x v c.loop-i.echelon.rows c.loop-i.echelon.pivots) (sym part) (here laws v G)) (λ ne j q. st i c.loop-i-test.true ne j (omega arith))))),
+          (subst (λ (x : ℕ). Row m laws x v c.args.connection.now (b i) i k (λ l. get_or ys l 0)) part (c.write_row.ensures laws v (b i) (subst (λ (x : ℕ). Table m laws x x v c.args.echelon.now.rows c.args.echelon.now.pivots) (sym part) G) (λ ne j q. st i c.loop-i-test.true ne j (omega arith))))),
     )
 
 pub returns : goal.returns
@@ -49,5 +44,5 @@ returns g c =
       rest_unchanged = subst (λ (d : ℕ). drop (n * d) out ≡ drop (n * d) c.args.out.now) c.size-d.ensures c.loop-i.invariant.0;
       rows = λ laws v b.
           subst (λ (d : ℕ). Table m laws d d v c.args.echelon.now.rows c.args.echelon.now.pivots → ((i : ℕ) → i < n → i ≢ c.args.self.now.k → Stands m d (get_or c.args.sides.now i []) (b i)) → (i : ℕ) → i < n → Row m laws d v connection (b i) i c.args.self.now.k (λ l. get_or out (i * d + l) 0)) c.size-d.ensures
-          (λ G st i h. c.loop-i.invariant.3 i (omega arith) laws v b G st);
+          (λ G st i h. c.loop-i.invariant.1 i (omega arith) laws v b G st);
     }

@@ -18,7 +18,7 @@ loop-pivot-preserved g c =
     let pivot : c.in-Some.pivot.now ≡ get_or pivots i 0 = t.2 0 ∙ get_or-take c.args.count pivots i 0 below in
     let long : length c.in-Some.above.now ≡ pitch = ap length (t.3 []) ∙ c.args.self.now.wide i (omega arith) in (
       omega arith,
-      λ k h. subst (λ n. get_or c.add_multiple.new.to k 0 ≡ reduced m.add m.mul m.neg (λ r j. get_or (get_or rows r []) j 0) (λ r. get_or pivots r 0) (λ j. get_or c.args.self.now.work j 0) n k)
+      λ k h. subst (λ n. get_or c.add_multiple.new.to k 0 ≡ reduced m.add m.mul m.neg (λ r j. get_or (get_or rows r []) j 0) (λ r. get_or pivots r 0) (λ j. get_or c.args.work.now j 0) n k)
           (sym (length_push c.loop-pivot.yielded _ ∙ add-one i))
           (ap (λ xs. get_or xs k 0) c.add_multiple.ensures.sums
           ∙ added_at m c.neg-q.result (take c.args.width c.in-Some.above.now) work k (omega (arith, long, length-take c.args.width c.in-Some.above.now)) (omega (arith, c.requires.width))
