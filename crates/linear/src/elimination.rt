@@ -40,9 +40,11 @@ pub enum SolveFault {
 // Rows in echelon form with the pivot of each, and a row to work in.
 #[derive(Drop)]
 pub struct Echelon<const ROWS: usize> {
+    // Two arrays and not one of pairs: a test of the pivots reads these alone, and `Table` speaks of each.
     rows: [[u32; PITCH]; ROWS],
     pivots: [usize; ROWS],
     work: [u32; PITCH],
+    // `Below` is no such fact: how many rows count, and of what places, each call is told.
     ghost wide: { Wide ROWS rows },
 }
 
@@ -95,22 +97,8 @@ impl<const ROWS: usize> Echelon<ROWS> {
         }
     }
 
-    // Reduces the first `width` words of a row by the first `count` rows: after each it is zero at that
-    // row's pivot.
-    fn reduce<F: Field>(&self, field: &F, count: usize, width: usize, work: &mut [u32; PITCH])
-        requires rows { count ≤ ROWS }
-        requires width { width ≤ pitch }
-        requires within { Below width count self.now.pivots }
-        ensures { Reduced (F.Field.meaning field.now) self.now.rows self.now.pivots count (λ j. slice_index work.old j) width work.new }
-    {
-        for (pivot, above) in self.pivots[..count].iter().zip(&self.rows) {
-            let q = field.neg(work[*pivot]);
-            add_multiple(field, q, &above[..width], work);
-        }
-    }
-
-    // What the first `count` rows leave of a vector, and after it, up to `width` words, the coordinates
-    // of what they added to it.
+    // What the first `count` rows leave of a vector, each taking off what stands at its pivot, and after
+    // it, up to `width` words, the coordinates of what they added to it.
     // `count` is of rows of its own, and `width` of words of the answer: no slice lends either.
     fn remainder<F: Field>(
         &self,
@@ -128,7 +116,10 @@ impl<const ROWS: usize> Echelon<ROWS> {
     {
         let mut work = [0; PITCH];
         rows::begin(field, &mut work, vector);
-        self.reduce(field, count, width, &mut work);
+        for (pivot, above) in self.pivots[..count].iter().zip(&self.rows) {
+            let q = field.neg(work[*pivot]);
+            add_multiple(field, q, &above[..width], &mut work);
+        }
         work
     }
 
