@@ -4,5 +4,6 @@
 #![tactic(auto)]
 
 pub mod fault;
+mod rows;
 
 pub use fault::ShapeFault;
