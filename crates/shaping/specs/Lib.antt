@@ -1,3 +1,4 @@
 pub mod Faults
 pub mod Questions
+pub mod Steps
 pub mod Answer

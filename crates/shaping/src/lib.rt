@@ -4,6 +4,7 @@
 #![tactic(auto)]
 
 pub mod fault;
+mod request;
 mod rows;
 
 pub use fault::ShapeFault;

@@ -4,7 +4,8 @@
 --   LineRead             the answer of reading a line into words: the reader at the next, or the question that got a no
 --   CountRead            the same of the line with a polynomial's number of terms
 --   TermsRead            the same of k term lines, the terms standing at the front of out, clamped
---   Walked                i of k term lines are read: what is asked, what follows and what is read is as from the start
+--   LinesWalked          i of k lines are read: what is asked and what follows is as from the start
+--   TermsWalked          they are lines of terms, and what is read is as from the start too
 use Rattle.std.specs.Prelude.{◌≡◌, ℕ, suc, ◌+◌, ◌-◌, List, ◌++◌, take, Ok, Err, Result}
 use Rattle.staircase.specs.declared.rules.Term.{Term}
 use Rattle.polynomials.specs.Held.{terms_of}
@@ -40,10 +41,13 @@ abbrev pub TermsRead : ℕ → ℕ → Reader → List Term → Result Reader Te
 TermsRead c k p out (Ok q) = LinesPassed c k p q × (terms_of (take k out) ≡ clamped_terms (terms c k (left p)))
 TermsRead c k p out (Err f) = Faulted (lines_asks p.place.line c k (left p)) f
 
-pub record Walked (c k i : ℕ) (p q : Reader) (out : List Term) : Type 0 where
+pub record LinesWalked (c k i : ℕ) (p q : Reader) : Type 0 where
   pub refuses : (number line place : ℕ) → Refused (lines_asks q.place.line c (k - i) (left q)) number line place → Refused (lines_asks p.place.line c k (left p)) number line place
   pub accepts : AllYes (lines_asks q.place.line c (k - i) (left q)) → AllYes (lines_asks p.place.line c k (left p))
   pub rest : past_terms c (k - i) (left q) ≡ past_terms c k (left p)
-  pub taken : terms_of (take i out) ++ clamped_terms (terms c (k - i) (left q)) ≡ clamped_terms (terms c k (left p))
   pub line : q.place.line ≡ p.place.line + i
   pub same_text : q.text.now ≡ p.text.now
+
+pub record TermsWalked (c k i : ℕ) (p q : Reader) (out : List Term) : Type 0 where
+  pub lines : LinesWalked c k i p q
+  pub taken : terms_of (take i out) ++ clamped_terms (terms c (k - i) (left q)) ≡ clamped_terms (terms c k (left p))

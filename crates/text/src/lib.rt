@@ -6,7 +6,7 @@ pub mod fault;
 pub mod filling;
 pub mod first_line;
 mod layout;
-mod reading;
+pub mod reading;
 mod term;
 pub mod writing;
 

@@ -9,7 +9,7 @@ use column::Reader;
 use polynomials::Term;
 
 // Reads a line into the words and answers the reader at the next, with the line in the fault.
-fn read_line<'a>(reader: Reader<'a>, words: &mut [u32]) -> Result<Reader<'a>, TextFault>
+pub fn read_line<'a>(reader: Reader<'a>, words: &mut [u32]) -> Result<Reader<'a>, TextFault>
     ensures { LineRead (length words.old) reader.entry words.new result }
 {
     reader
