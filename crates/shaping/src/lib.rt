@@ -3,6 +3,7 @@
 // basis text, rows.rt what is printed. Nothing is stored, nothing allocated.
 #![tactic(auto)]
 
+mod basis;
 pub mod fault;
 mod request;
 mod rows;
