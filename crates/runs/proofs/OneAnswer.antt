@@ -82,7 +82,7 @@ module _ (m : FieldMeaning) (laws : FieldLaws m) (cmp : Comparison) (O : OrderLa
   vector_chain : j.stage ≡ closed → (k : ℕ) (r : List ℕ) (room : ℕ) → Chain (vector_asks m laws cmp n ps k r room)
   vector_chain e k r room = (settled 20 0 (both_known (dec_le 1 k) (dec_le k n)), λ v. rest_chain e k v r room)
 
-  chain : (c : Call) → Chain (asks m laws cmp j c)
+  pub chain : (c : Call) → Chain (asks m laws cmp j c)
   chain (enter p) = enter_chain m cmp j p
   chain (fill bytes) = fill_chain m cmp j bytes
   chain close = settled 5 0 (opened_known j.stage) ▸ chain_append (stairs_asks m laws cmp n ps) (agree_ask m laws cmp j ∷ []) stairs_chain (λ y. settled 18 0 (agree_known y) ▸ tt)
@@ -96,7 +96,7 @@ module _ (m : FieldMeaning) (laws : FieldLaws m) (cmp : Comparison) (O : OrderLa
 
   -- what an accepted call answers exists
 
-  output_some : (c : Call) → AllYes (asks m laws cmp j c) → (out : List ℕ) × Output m laws cmp j c out
+  pub output_some : (c : Call) → AllYes (asks m laws cmp j c) → (out : List ℕ) × Output m laws cmp j c out
   output_some (enter p) y = ([], refl)
   output_some (fill bytes) y = (_, refl)
   output_some close y = (_, refl)
@@ -107,7 +107,7 @@ module _ (m : FieldMeaning) (laws : FieldLaws m) (cmp : Comparison) (O : OrderLa
 
   -- and is one
 
-  output_once : (c : Call) → AllYes (asks m laws cmp j c) → (out out' : List ℕ) → Output m laws cmp j c out → Output m laws cmp j c out' → out ≡ out'
+  pub output_once : (c : Call) → AllYes (asks m laws cmp j c) → (out out' : List ℕ) → Output m laws cmp j c out → Output m laws cmp j c out' → out ≡ out'
   output_once (enter p) y out out' x x' = x ∙ sym x'
   output_once (fill bytes) y out out' x x' = x ∙ sym x'
   output_once close y out out' x x' = x ∙ sym x'

@@ -36,10 +36,10 @@ numbers_known c bs ends = go (reading_line c bs) (reads_line_reading c bs)
     go (Err WrongLength) h = absurd (h ends)
     go (Err NotANumber) h = no (λ x. h.1 x.0 x.1 x.2 x.3)
 
-line_chain : (l c : ℕ) (bs : List ℕ) → Chain (line_asks l c bs)
+pub line_chain : (l c : ℕ) (bs : List ℕ) → Chain (line_asks l c bs)
 line_chain l c bs = (settled_at 26 l l (ends_known c bs), λ ends. (settled_at 27 l l (numbers_known c bs ends), λ y. tt))
 
-lines_chain : (l c k : ℕ) (bs : List ℕ) → Chain (lines_asks l c k bs)
+pub lines_chain : (l c k : ℕ) (bs : List ℕ) → Chain (lines_asks l c k bs)
 lines_chain l c zero bs = tt
 lines_chain l c (suc k) bs = chain_append (line_asks l c bs) (lines_asks (suc l) c k (next c bs)) (line_chain l c bs) (λ y. lines_chain (suc l) c k (next c bs))
 

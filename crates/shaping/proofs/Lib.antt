@@ -1,3 +1,12 @@
+pub mod Laws
+pub mod Questions
+pub mod OneAnswer
+pub mod Bounds
+pub mod TextBounds
+pub mod BasisBounds
 pub mod Printing
 pub mod Requests
 pub mod Loading
+pub mod Shaping
+pub mod Heading
+pub mod Told
