@@ -79,7 +79,7 @@ module _ (m : FieldMeaning) (cmp : Comparison) where
       (polynomial_is l j fits bs (yes_first (polynomial_asks m cmp l j bs) (later_asks m cmp l j k bs) y))
       (polynomials_are (l + (1 + term_count bs)) (holding j (polynomial j.n bs ∷ [])) fits k (past j.n bs) (yes_rest (polynomial_asks m cmp l j bs) (later_asks m cmp l j k bs) y))
 
-  length_polynomials : (n k : ℕ) (bs : List ℕ) → length (polynomials n k bs) ≡ k
+  pub length_polynomials : (n k : ℕ) (bs : List ℕ) → length (polynomials n k bs) ≡ k
   length_polynomials n zero bs = refl
   length_polynomials n (suc k) bs = ap suc (length_polynomials n k (past n bs))
 

@@ -60,7 +60,7 @@ field_chain c = go (c == 0)
     go false = settled 1 1 (both_known (dec_le _ _) (dec_le _ _)) ▸ settled 2 1 (test_known _) ▸ tt
 
 -- what follows the field
-abbrev code_asks : List ℕ → List Question
+abbrev pub code_asks : List ℕ → List Question
 code_asks bs = single 31 1 ((1 ≤ order_code bs) × (order_code bs ≤ 4)) ∷ in_line 1 (open_asks (header_n bs))
 
 pub header_chain : (bs : List ℕ) → Chain (header_asks bs)
