@@ -9,20 +9,20 @@ use Rattle.order.specs.Laws.{Comparison, OrderLaws}
 use Rattle.algebra.specs.Elements.{field_of}
 use Rattle.runs.specs.Question.{single, AllYes}
 use Rattle.runs.specs.Job.{Job, closed, new, shut, most_stairs}
-use Rattle.runs.specs.Text.{text_length, next, line_asks, fill_asks, header_n}
-use Rattle.runs.specs.Writing.{field_code}
+use Rattle.runs.specs.Text.{text_length, text_polynomials, next, past_terms, line_asks, lines_asks, fill_asks, header_n}
+use Rattle.runs.specs.Writing.{field_code, order_code}
 use Rattle.runs.specs.Generators.{D}
 use Rattle.runs.specs.Close.{close_asks}
 use Rattle.runs.specs.Convert.{shape_ask, table_ask, convert_asks}
 use Rattle.runs.specs.Run.{open_asks}
 use Rattle.runs.specs.Sound.{Sound}
-use Rattle.runs.proofs.Questions.{◌▸◌}
+use Rattle.runs.proofs.Questions.{◌▸◌, yes_first}
 use Rattle.runs.proofs.Conversion as conversion
 use Rattle.runs.proofs.Conversion.{from_zero}
-use Rattle.shaping.specs.Questions.{most_bytes, most_words, field_asks, header_asks, job_of, request, request_line, variable, count, column, vector, request_asks, basis_asks}
+use Rattle.shaping.specs.Questions.{most_bytes, most_words, in_line, residue_asks, field_asks, code_asks, header_asks, job_of, request, request_line, variable, count, column, vector, request_asks, basis_asks}
 use Rattle.shaping.proofs.Bounds.{Small, Within, within_append, within_in_line, small_single, small_each}
 use Rattle.shaping.proofs.TextBounds.{line_left, lines_left, text_left, line_within, lines_within, fill_within}
-use Rattle.shaping.proofs.Questions.{code_asks, word_asks, shape_asks, after_request, after_close, after_fill, shut_sound}
+use Rattle.shaping.proofs.Questions.{word_asks, shape_asks, after_close, after_fill, shut_sound}
 
 -- the first line of the request and the bytes from there on are together no more than those of the input, and one
 request_left : (n : ℕ) (bs : List ℕ) → request_line n bs + length (request n bs) ≤ 1 + length bs
@@ -40,15 +40,15 @@ module _ (B : ℕ) where
   field_within : 1 ≤ B → (c : ℕ) → Within B (field_asks c)
   field_within h c = go (c == 0)
     where
-      go : (b : Bool) → Within B (cond b [] (single 1 1 ((2 ≤ c) × (c ≤ 2147483647)) ∷ single 2 1 (T (listed c)) ∷ []))
+      go : (b : Bool) → Within B (cond b [] (residue_asks c))
       go true = tt
       go false = small_single B 1 1 _ h ▸ small_single B 2 1 _ h ▸ tt
 
   first_within : 1 ≤ B → (bs : List ℕ) → Within B (header_asks bs)
   first_within h bs =
       small_single B 32 0 _ (omega arith)
-      ▸ within_append B (line_asks 1 4 bs) (field_asks (field_code bs) ++ code_asks bs) (line_within B 1 4 bs h) (λ y.
-      within_append B (field_asks (field_code bs)) (code_asks bs) (field_within h (field_code bs)) (λ z.
+      ▸ within_append B (line_asks 1 4 bs) (field_asks (field_code bs) ++ code_asks (order_code bs) (header_n bs)) (line_within B 1 4 bs h) (λ y.
+      within_append B (field_asks (field_code bs)) (code_asks (order_code bs) (header_n bs)) (field_within h (field_code bs)) (λ z.
       small_single B 31 1 _ h
       ▸ within_in_line B 1 h (open_asks (header_n bs)) (small_single B 4 0 _ (omega arith) ▸ tt)))
 
@@ -100,36 +100,41 @@ module _ (B : ℕ) where
 
     -- the basis text and the request
 
+    -- a request
+
+    request_within : (l n d : ℕ) (qs : List ℕ) → l + length qs ≤ B → Within B (request_asks l n d qs)
+    request_within l n d qs h =
+        within_append B (line_asks l 2 qs) (single 20 l ((1 ≤ variable qs) × (variable qs ≤ n)) ∷ single 21 l (count qs ≡ d) ∷ word_asks l qs) (line_within B l 2 qs (omega arith)) (λ y.
+        small_single B 20 l _ (omega arith)
+        ▸ small_single B 21 l _ (omega arith)
+        ▸ within_append B (lines_asks (suc l) 1 (count qs) (next 2 qs)) (single 30 0 (past_terms 1 (count qs) (next 2 qs) ≡ []) ∷ []) (lines_within B (suc l) 1 (count qs) (next 2 qs) (omega (arith, line_left 2 qs y.0))) (λ z. small_single B 30 0 _ (omega arith) ▸ tt))
+
+    -- one whose lines read has no more words than bytes
+    vector_left : (l n d : ℕ) (qs : List ℕ) → l + length qs ≤ B → AllYes (request_asks l n d qs) → length (vector qs) ≤ B
+    vector_left l n d qs h y =
+        let words = yes_first (lines_asks (suc l) 1 (count qs) (next 2 qs)) (single 30 0 (past_terms 1 (count qs) (next 2 qs) ≡ []) ∷ []) y.1.1.1.1 in
+        omega (arith, h, line_left 2 qs y.0, lines_left (suc l) 1 (count qs) (next 2 qs) words, length_column (count qs) (next 2 qs))
+
     module _ (n : ℕ) (bs : List ℕ) (h : 1 + length bs ≤ B) where
-      abbrev R : ℕ
-      R = request_line n bs
+      abbrev l : ℕ
+      l = request_line n bs
 
-      request_within : Within B (request_asks m laws cmp n bs)
-      request_within =
-          let left = request_left n bs in
-          within_append B (line_asks R 2 (request n bs)) (word_asks m laws cmp n bs) (line_within B R 2 (request n bs) (omega arith)) (λ y.
-          small_single B 20 R _ (omega arith)
-          ▸ small_single B 21 R _ (omega arith)
-          ▸ lines_within B (suc R) 1 (count n bs) (next 2 (request n bs)) (omega (arith, line_left 2 (request n bs) y.0)))
+      abbrev qs : List ℕ
+      qs = request n bs
 
-      -- a request whose lines read has no more words than bytes
-      vector_left : AllYes (request_asks m laws cmp n bs) → length (vector n bs) ≤ B
-      vector_left y = omega (
-        arith,
-        request_left n bs,
-        line_left 2 (request n bs) y.0,
-        lines_left (suc R) 1 (count n bs) (next 2 (request n bs)) y.1.1.1.1,
-        length_column (count n bs) (next 2 (request n bs)),
-      )
+      abbrev d : ℕ
+      d = D m laws cmp n (text_polynomials n bs)
+
+      placed : l + length qs ≤ B
+      placed = omega (arith, request_left n bs)
 
       all_within : OrderLaws cmp → AllYes (open_asks n) → variables ≤ B → most_stairs + most_stairs ≤ B → Within B (basis_asks m laws cmp n bs)
       all_within O opens vars stairs =
           within_append B (fill_asks m cmp (new n) bs) (after_fill m laws cmp n bs) (fill_within B m cmp (new n) bs h) (λ f.
           within_append B (close_asks m laws cmp (job_of n bs)) (after_close m laws cmp n bs) (close_within (job_of n bs) (omega (arith, opens.0.1)) (omega (arith, text_left m cmp (new n) bs f))) (λ c.
-          within_append B (request_asks m laws cmp n bs) (after_request m laws cmp n bs) request_within (λ y.
-          small_single B 30 0 _ (omega arith)
-          ▸ within_in_line B R (omega (arith, request_left n bs)) (shape_asks m laws cmp n bs)
-          (convert_within O (shut (job_of n bs)) (shut_sound m laws cmp n bs O opens f c) stairs (variable n bs) (vector n bs) most_words (vector_left y)))))
+          within_append B (request_asks l n d qs) (in_line l (shape_asks m laws cmp n bs)) (request_within l n d qs placed) (λ y.
+          within_in_line B l (omega (arith, request_left n bs)) (shape_asks m laws cmp n bs)
+          (convert_within O (shut (job_of n bs)) (shut_sound m laws cmp n bs O opens f c) stairs (variable qs) (vector qs) most_words (vector_left l n d qs placed y)))))
 
 -- at 9000
 

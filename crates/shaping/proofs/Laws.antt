@@ -18,7 +18,7 @@ use Rattle.order.specs.Renumberings.{renumbers}
 use Rattle.order.specs.Rearrangements.{reversal}
 use Rattle.order.specs.Moves.{renumbered_laws, reverses}
 use Rattle.runs.specs.Question.{single, AllYes}
-use Rattle.shaping.specs.Questions.{field_by, reversed, order_by, field_asks}
+use Rattle.shaping.specs.Questions.{field_by, reversed, order_by, residue_asks, field_asks}
 
 -- numbers that may be missing are a set
 
@@ -73,7 +73,7 @@ module _ (m : FieldMeaning) where
 pub field_laws : (c : ℕ) → AllYes (field_asks c) → FieldLaws (field_by c)
 field_laws c = go (c == 0)
   where
-    go : (b : Bool) → AllYes (cond b [] (single 1 1 ((2 ≤ c) × (c ≤ 2147483647)) ∷ single 2 1 (T (listed c)) ∷ [])) → FieldLaws (cond b (total bytes) (total (residues c)))
+    go : (b : Bool) → AllYes (cond b [] (residue_asks c)) → FieldLaws (cond b (total bytes) (total (residues c)))
     go true y = byte_laws
     go false y = residue_laws c y.1.0
 

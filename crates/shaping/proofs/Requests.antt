@@ -1,12 +1,17 @@
--- A walk over lines of one word each: the words so far are those of the lines so far.
-use Rattle.std.proofs.Common.{◌≡◌, ℕ, zero, suc, ◌+◌, ◌-◌, ◌<◌, ◌≤◌, List, [], ◌∷◌, ◌++◌, length, take, set, get_or, sym, refl, ap, ◌∙◌, ap₂, arith}
+-- A request: a walk over lines of one word each, in which the words so far are those of the lines so far, and all its questions.
+use Rattle.std.proofs.Common.{◌≡◌, ℕ, zero, suc, ◌+◌, ◌-◌, ◌<◌, ◌≤◌, List, [], ◌∷◌, ◌++◌, length, take, set, get_or, sym, refl, ap, ◌∙◌, subst, ap₂, arith, length-drop}
 use Rattle.std.proofs.lemmas.List.{append_assoc, append-nil, take_more_set, take_all}
-use Rattle.runs.specs.Text.{words, next}
+use Rattle.polynomials.proofs.Answering.{refused_first, refused_after, single_no}
+use Rattle.runs.specs.Question.{Question, single, AllYes, Refused}
+use Rattle.runs.specs.Text.{words, next, past_terms, lines_asks}
+use Rattle.runs.proofs.Questions.{yes_append}
+use Rattle.job.proofs.Promises.{no_members}
 use Rattle.column.specs.declared.reader.Reader.{Reader}
 use Rattle.column.specs.Walk.{left}
 use Rattle.text.specs.Steps.{LinePassed, LinesPassed, LinesWalked}
 use Rattle.text.proofs.Walking.{lines_walked_none, lines_walked_more, lines_walked_all}
-use Rattle.shaping.specs.Questions.{column}
+use Rattle.shaping.specs.Questions.{count, column, vector, request_asks}
+use Rattle.shaping.specs.Steps.{first_asks}
 
 pub record WordsWalked (k i : ℕ) (p q : Reader) (out : List ℕ) : Type 0 where
   pub lines : LinesWalked 1 k i p q
@@ -32,3 +37,43 @@ module _ (k : ℕ) (p : Reader) where
   words_walked_all i q out whole long w =
       let e : k - i ≡ 0 = omega arith in
       (lines_walked_all 1 k p i q whole w.lines, sym (ap (λ (j : ℕ). take i out ++ column j (left q)) e ∙ append-nil (take i out) ∙ take_all i out (omega arith)) ∙ w.taken)
+
+-- ---- a whole request: p is at its first line, q at its words
+
+module _ (n d : ℕ) (p q : Reader) (yes : AllYes (first_asks p.place.line n d (left p))) (first : LinePassed 2 p q) where
+  abbrev lines : List Question
+  lines = lines_asks (suc p.place.line) 1 (count (left p)) (next 2 (left p))
+
+  abbrev over : List Question
+  over = single 30 0 (past_terms 1 (count (left p)) (next 2 (left p)) ≡ []) ∷ []
+
+  many : count (left p) ≡ d
+  many = yes.1.1.1.0
+
+  lines_are : lines_asks q.place.line 1 d (left q) ≡ lines
+  lines_are = ap (λ (l : ℕ). lines_asks l 1 d (left q)) first.line ∙ ap₂ (lines_asks (suc p.place.line) 1) (sym many) first.rest
+
+  pub words_refused : (number line place : ℕ) → Refused (lines_asks q.place.line 1 d (left q)) number line place → Refused (request_asks p.place.line n d (left p)) number line place
+  words_refused number line place r =
+      refused_after (first_asks p.place.line n d (left p)) (lines ++ over) number line place yes (refused_first lines over number line place (subst (λ (qs : List Question). Refused qs number line place) lines_are r))
+
+  pub vector_is : (ws : List ℕ) → ws ≡ column d (left q) → ws ≡ vector (left p)
+  vector_is ws e = e ∙ ap₂ column (sym many) first.rest
+
+  -- r is after the words
+  module _ (r : Reader) (l : LinesPassed 1 d q r) where
+    rest_is : left r ≡ past_terms 1 (count (left p)) (next 2 (left p))
+    rest_is = l.rest ∙ ap₂ (past_terms 1) (sym many) first.rest
+
+    lines_yes : AllYes lines
+    lines_yes = subst AllYes lines_are l.asked
+
+    pub more_follows : r.place.at < length r.text.now → Refused (request_asks p.place.line n d (left p)) 30 0 0
+    more_follows h =
+        let no : (past_terms 1 (count (left p)) (next 2 (left p)) ≡ []) → ⊥ = λ e. omega (arith, h, length-drop r.place.at r.text.now, ap length (rest_is ∙ e)) in
+        refused_after (first_asks p.place.line n d (left p)) (lines ++ over) 30 0 0 yes (refused_after lines over 30 0 0 lines_yes (single_no 30 0 no))
+
+    pub request_passed : length r.text.now ≤ r.place.at → AllYes (request_asks p.place.line n d (left p))
+    request_passed h =
+        let empty = no_members (left r) (omega (arith, h, length-drop r.place.at r.text.now)) in
+        yes_append (first_asks p.place.line n d (left p)) (lines ++ over) yes (yes_append lines over lines_yes (sym rest_is ∙ empty, tt))

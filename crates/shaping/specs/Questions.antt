@@ -5,18 +5,20 @@
 --   reversed cmp n          the order cmp with the variables 1 to n reversed, where n is from 1 to 4
 --   order_by o n            the order with the code o: DRL, LEX, and the same two reversed
 --   in_line l qs            the questions qs, a no to which is about line l
---   field_asks c            the questions 1 and 2 of the field with the code c: bytes are asked nothing
+--   residue_asks c          the questions 1 and 2, of the residues modulo c
+--   field_asks c            those of the field with the code c: bytes are asked nothing
+--   code_asks o n           the questions of the order code o and the number n of variables
 --   header_asks bs          the questions before the basis: the length, the first line, the field, the order code and the number of variables
 --   job_of n bs             the job of n variables that holds the polynomials of the basis text
 --   request n bs            what follows the basis text: a line of the variable and the number of words, then a line for each word
 --   request_line n bs       the number of its first line: one more than there are bytes 10 before it
---   variable n bs           the number of the variable that is asked for
---   count n bs              how many words the vector has
---   column c bs             the words of c lines of one word each
---   vector n bs             the words of the vector
---   request_asks            the questions of the request: its first line, 20 and 21, then the lines of the words
---   over_ask                the question 30: does nothing follow the last word
+--   variable qs             the number of the variable that the request qs asks for
+--   count qs                how many words it has
+--   column c qs             the words of c lines of one word each
+--   vector qs               the words of the request
+--   request_asks l n d qs   the questions of the request qs, whose first line is line l, for n variables and d words: that line, 20 and 21, the lines of the words, and 30
 --   basis_asks              all questions of a basis text and a request, over a field and an order
+-- Some questions come where they can only get a yes: 26 and 27 of line 1, 20 and 21 the second time, and 28, 29, 5, 19 and 23.
 -- Used by: the answer of the program.
 use Rattle.std.specs.Prelude.{◌≡◌, ℕ, zero, suc, ◌≤◌, cond, T, List, [], ◌∷◌, ◌++◌, map, length, take, drop, Some, None, ◌==◌, slice_index}
 use Rattle.std.specs.List.{count_by}
@@ -55,55 +57,55 @@ order_by o n = cond (o == 1) drl (cond (o == 2) lex (cond (o == 3) (reversed drl
 abbrev pub in_line : ℕ → List Question → List Question
 in_line l qs = map (λ q. record { number = q.number; line = l; yes = q.yes; place = q.place }) qs
 
+abbrev pub residue_asks : ℕ → List Question
+residue_asks c = single 1 1 ((2 ≤ c) × (c ≤ 2147483647)) ∷ single 2 1 (T (listed c)) ∷ []
+
 abbrev pub field_asks : ℕ → List Question
-field_asks c = cond (c == 0) [] (single 1 1 ((2 ≤ c) × (c ≤ 2147483647)) ∷ single 2 1 (T (listed c)) ∷ [])
+field_asks c = cond (c == 0) [] (residue_asks c)
+
+abbrev pub code_asks : ℕ → ℕ → List Question
+code_asks o n = single 31 1 ((1 ≤ o) × (o ≤ 4)) ∷ in_line 1 (open_asks n)
 
 abbrev pub header_asks : List ℕ → List Question
 header_asks bs =
     single 32 0 (length bs ≤ most_bytes)
     ∷ (line_asks 1 4 bs
     ++ (field_asks (field_code bs)
-    ++ (single 31 1 ((1 ≤ order_code bs) × (order_code bs ≤ 4))
-    ∷ in_line 1 (open_asks (header_n bs)))))
+    ++ code_asks (order_code bs) (header_n bs)))
 
-module _ (n : ℕ) (bs : List ℕ) where
-  abbrev pub job_of : Job
-  job_of = holding (new n) (text_polynomials n bs)
+abbrev pub job_of : ℕ → List ℕ → Job
+job_of n bs = holding (new n) (text_polynomials n bs)
 
-  abbrev pub request : List ℕ
-  request = drop (text_length n bs) bs
+abbrev pub request : ℕ → List ℕ → List ℕ
+request n bs = drop (text_length n bs) bs
 
-  abbrev pub request_line : ℕ
-  request_line = suc (count_by (λ b. b == 10) (take (text_length n bs) bs))
+abbrev pub request_line : ℕ → List ℕ → ℕ
+request_line n bs = suc (count_by (λ b. b == 10) (take (text_length n bs) bs))
 
-  abbrev pub variable : ℕ
-  variable = slice_index (words 2 request) 0
+abbrev pub variable : List ℕ → ℕ
+variable qs = slice_index (words 2 qs) 0
 
-  abbrev pub count : ℕ
-  count = slice_index (words 2 request) 1
+abbrev pub count : List ℕ → ℕ
+count qs = slice_index (words 2 qs) 1
 
 abbrev pub column : ℕ → List ℕ → List ℕ
-column zero bs = []
-column (suc c) bs = slice_index (words 1 bs) 0 ∷ column c (next 1 bs)
+column zero qs = []
+column (suc c) qs = slice_index (words 1 qs) 0 ∷ column c (next 1 qs)
 
-abbrev pub vector : ℕ → List ℕ → List ℕ
-vector n bs = column (count n bs) (next 2 (request n bs))
+abbrev pub vector : List ℕ → List ℕ
+vector qs = column (count qs) (next 2 qs)
 
-module _ (m : FieldMeaning) (laws : FieldLaws m) (cmp : Comparison) (n : ℕ) (bs : List ℕ) where
-  abbrev pub request_asks : List Question
-  request_asks =
-      line_asks (request_line n bs) 2 (request n bs)
-      ++ (single 20 (request_line n bs) ((1 ≤ variable n bs) × (variable n bs ≤ n))
-      ∷ single 21 (request_line n bs) (count n bs ≡ D m laws cmp n (text_polynomials n bs))
-      ∷ lines_asks (suc (request_line n bs)) 1 (count n bs) (next 2 (request n bs)))
+abbrev pub request_asks : ℕ → ℕ → ℕ → List ℕ → List Question
+request_asks l n d qs =
+    line_asks l 2 qs
+    ++ (single 20 l ((1 ≤ variable qs) × (variable qs ≤ n))
+    ∷ single 21 l (count qs ≡ d)
+    ∷ (lines_asks (suc l) 1 (count qs) (next 2 qs)
+    ++ (single 30 0 (past_terms 1 (count qs) (next 2 qs) ≡ []) ∷ [])))
 
-  abbrev pub over_ask : Question
-  over_ask = single 30 0 (past_terms 1 (count n bs) (next 2 (request n bs)) ≡ [])
-
-  abbrev pub basis_asks : List Question
-  basis_asks =
-      fill_asks m cmp (new n) bs
-      ++ (close_asks m laws cmp (job_of n bs)
-      ++ (request_asks
-      ++ (over_ask
-      ∷ in_line (request_line n bs) (convert_asks m laws cmp (shut (job_of n bs)) (variable n bs) (vector n bs) most_words))))
+abbrev pub basis_asks : (m : FieldMeaning) → FieldLaws m → Comparison → ℕ → List ℕ → List Question
+basis_asks m laws cmp n bs =
+    fill_asks m cmp (new n) bs
+    ++ (close_asks m laws cmp (job_of n bs)
+    ++ (request_asks (request_line n bs) n (D m laws cmp n (text_polynomials n bs)) (request n bs)
+    ++ in_line (request_line n bs) (convert_asks m laws cmp (shut (job_of n bs)) (variable (request n bs)) (vector (request n bs)) most_words)))

@@ -2,26 +2,33 @@
 --   RefusedBy qs f              the fault f is the first of the questions qs that gets a no, by number, line and place
 --   WordsRead k p ws r          the answer of reading k lines of one word each into ws: the reader after them, or the question that got a no
 --   Loaded                      the answer of Open, Fill and Close to a new job
---   RequestRead                 the answer of reading the first line of a request
---   Given                       the answer over a field and an order: a basis, or the question that got a no
-use Rattle.std.specs.Prelude.{◌≡◌, ℕ, ◌*◌, ◌≤◌, List, ◌++◌, take, Ok, Err, Result}
+--   first_asks l n d qs         the questions of the first line of a request
+--   FirstRead                   the answer of reading it: the variable and the reader after it, or the question that got a no
+--   RequestRead                 the answer of reading a whole request: the variable, the words standing in ws, or the question that got a no
+--   BasisGiven                  over a field and an order, all questions got a yes and b is the basis that Convert writes
+--   Given                       such a basis, or the question that got a no
+--   Passed qs P r               where each of the questions qs gets a yes, P r; otherwise r is the fault of the first that gets a no
+--   Ordered                     over a field: the answer for an order code and a number of variables
+--   Headed                      the answer to an input, before it is printed
+use Rattle.std.specs.Prelude.{◌≡◌, ℕ, ◌*◌, ◌≤◌, ◌⊎◌, List, [], ◌∷◌, ◌++◌, take, Ok, Err, Result}
 use Rattle.field.specs.Meaning.{FieldMeaning, FieldLaws}
 use Rattle.order.specs.Laws.{Comparison}
 use Rattle.column.specs.declared.reader.Reader.{Reader}
 use Rattle.column.specs.Walk.{left}
-use Rattle.runs.specs.Question.{Question, AllYes, Refused}
+use Rattle.runs.specs.Question.{Question, single, AllYes, Refused}
 use Rattle.runs.specs.Job.{Job, new, shut}
-use Rattle.runs.specs.Text.{lines_asks, fill_asks, text_polynomials, text_length}
+use Rattle.runs.specs.Text.{line_asks, lines_asks, fill_asks, text_polynomials, text_length, header_n}
+use Rattle.runs.specs.Writing.{field_code, order_code}
 use Rattle.runs.specs.Generators.{D}
 use Rattle.runs.specs.Close.{close_asks}
 use Rattle.runs.specs.Convert.{Written}
 use Rattle.text.specs.declared.fault.TextFault.{TextFault}
 use Rattle.text.specs.Asked.{Faulted}
-use Rattle.text.specs.Steps.{LinesPassed}
+use Rattle.text.specs.Steps.{LinePassed, LinesPassed}
 use Rattle.shaping.specs.declared.fault.ShapeFault.{ShapeFault}
 use Rattle.shaping.specs.declared.rows.Basis.{Basis}
 use Rattle.shaping.specs.Faults.{number_of, line_of, place_of}
-use Rattle.shaping.specs.Questions.{job_of, column, variable, vector, basis_asks}
+use Rattle.shaping.specs.Questions.{field_by, order_by, code_asks, header_asks, job_of, request, variable, count, column, vector, request_asks, basis_asks}
 
 abbrev pub RefusedBy : List Question → ShapeFault → Type 0
 RefusedBy qs f = Refused qs (number_of f) (line_of f) (place_of f)
@@ -29,6 +36,17 @@ RefusedBy qs f = Refused qs (number_of f) (line_of f) (place_of f)
 abbrev pub WordsRead : ℕ → Reader → List ℕ → Result Reader TextFault → Type 0
 WordsRead k p ws (Ok q) = LinesPassed 1 k p q × (ws ≡ column k (left p))
 WordsRead k p ws (Err f) = Faulted (lines_asks p.place.line 1 k (left p)) f
+
+abbrev pub first_asks : ℕ → ℕ → ℕ → List ℕ → List Question
+first_asks l n d qs = line_asks l 2 qs ++ (single 20 l ((1 ≤ variable qs) × (variable qs ≤ n)) ∷ single 21 l (count qs ≡ d) ∷ [])
+
+abbrev pub FirstRead : ℕ → ℕ → Reader → Result (ℕ × Reader) TextFault → Type 0
+FirstRead n d p (Ok a) = AllYes (first_asks p.place.line n d (left p)) × (a.0 ≡ variable (left p)) × LinePassed 2 p a.1
+FirstRead n d p (Err f) = Faulted (first_asks p.place.line n d (left p)) f
+
+abbrev pub RequestRead : ℕ → ℕ → Reader → List ℕ → Result ℕ ShapeFault → Type 0
+RequestRead n d p ws (Ok k) = AllYes (request_asks p.place.line n d (left p)) × (k ≡ variable (left p)) × (ws ≡ vector (left p))
+RequestRead n d p ws (Err f) = RefusedBy (request_asks p.place.line n d (left p)) f
 
 module _ (m : FieldMeaning) (laws : FieldLaws m) (cmp : Comparison) (n : ℕ) (bs : List ℕ) where
   pub record JobLoaded (j : Job) (end size : ℕ) : Type 0 where
@@ -46,10 +64,19 @@ module _ (m : FieldMeaning) (laws : FieldLaws m) (cmp : Comparison) (n : ℕ) (b
     pub asked : AllYes (basis_asks m laws cmp n bs)
     pub n_is : b.n ≡ n
     pub size_is : b.size ≡ D m laws cmp n (text_polynomials n bs)
-    pub k_is : b.k ≡ variable n bs
-    pub few : b.size ≤ 48
-    pub written : Written m laws cmp n (text_polynomials n bs) (variable n bs) (vector n bs) (take (n * b.size) b.words)
+    pub k_is : b.k ≡ variable (request n bs)
+    pub written : Written m laws cmp n (text_polynomials n bs) (variable (request n bs)) (vector (request n bs)) (take (b.n * b.size) b.words)
 
   abbrev pub Given : Result Basis ShapeFault → Type 0
   Given (Ok b) = BasisGiven b
   Given (Err f) = RefusedBy (basis_asks m laws cmp n bs) f
+
+abbrev pub Passed : List Question → (Result Basis ShapeFault → Type 0) → Result Basis ShapeFault → Type 0
+Passed qs P (Ok b) = AllYes qs × P (Ok b)
+Passed qs P (Err f) = RefusedBy qs f ⊎ (AllYes qs × P (Err f))
+
+abbrev pub Ordered : FieldMeaning → ℕ → ℕ → List ℕ → Result Basis ShapeFault → Type 0
+Ordered m o n bs = Passed (code_asks o n) (λ r. (laws : FieldLaws m) → Given m laws (order_by o n) n bs r)
+
+abbrev pub Headed : List ℕ → Result Basis ShapeFault → Type 0
+Headed bs = Passed (header_asks bs) (λ r. (laws : FieldLaws (field_by (field_code bs))) → Given (field_by (field_code bs)) laws (order_by (order_code bs) (header_n bs)) (header_n bs) bs r)

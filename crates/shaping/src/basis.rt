@@ -1,23 +1,37 @@
 // A basis text and its request over one field and one order: Open, Fill and Close of a job, the request,
 // and Convert. One text for every field and order.
-ghost use Rattle.std.specs.Prelude.{◌≡◌, ◌≤◌, length, IfOk};
+ghost use Rattle.std.specs.Prelude.{◌≡◌, ◌≤◌, IfOk};
 ghost use Rattle.field.specs.Meaning.{FieldLaws};
-
+ghost use Rattle.runs.specs.Job.{new};
 ghost use Rattle.job.specs.State.{state, Kept};
-
-ghost use Rattle.shaping.specs.Steps.{Loaded};
+ghost use Rattle.text.specs.Filled.{Filled};
+ghost use Rattle.shaping.specs.Steps.{Loaded, Given};
 
 use crate::ShapeFault;
-use crate::request::{reader_after, read_words};
+use crate::request::{read_request, reader_after};
 use crate::rows::{Basis, MOST_WORDS};
 use field::Field;
-use job::{Job, JobFault};
+use job::Job;
 use order::Order;
-use text::reading::read_line;
 use text::{TextFault, fill};
 
 // The most words that a vector has.
 const MOST_STAIRS: usize = 48;
+
+// Makes the job a new one of n variables and fills it: the number of bytes read.
+fn fill_new<F: Field, O: Order>(
+    job: &mut Job<F, O>,
+    n: usize,
+    text: &[u8],
+) -> Result<usize, TextFault>
+    requires few { (1 ≤ n) × (n ≤ 4) }
+    ensures filled { Filled (F.Field.meaning job.old.field) (O.Order.meaning job.old.order) text.now (new n) (state job.new.table) result }
+    ensures kept { (laws : FieldLaws (F.Field.meaning job.old.field)) → Kept (F.Field.meaning job.old.field) laws (O.Order.meaning job.old.order) job.new.table }
+    ensures same_field_and_order { (job.new.field ≡ job.old.field) × (job.new.order ≡ job.old.order) }
+{
+    job.open(n).map_err(|fault| TextFault::Job(fault, 1))?;
+    fill(job, text)
+}
 
 // Fills and closes a new job of n variables: the number of bytes read, and D.
 fn load<F: Field, O: Order>(
@@ -29,11 +43,38 @@ fn load<F: Field, O: Order>(
     ensures loaded { (laws : FieldLaws (F.Field.meaning job.old.field)) → Loaded (F.Field.meaning job.old.field) laws (O.Order.meaning job.old.order) n text.now (state job.new.table) result }
     ensures kept { (laws : FieldLaws (F.Field.meaning job.old.field)) → Kept (F.Field.meaning job.old.field) laws (O.Order.meaning job.old.order) job.new.table }
     ensures same_field_and_order { (job.new.field ≡ job.old.field) × (job.new.order ≡ job.old.order) }
-    ensures inside { IfOk result (λ a. a.0 ≤ length text.now) }
     ensures few { IfOk result (λ a. a.1 ≤ 48) }
 {
-    job.open(n).map_err(|fault| TextFault::Job(fault, 1))?;
-    let end = fill(job, text)?;
+    let end = fill_new(job, n, text)?;
     let size = job.close().map_err(|fault| TextFault::Job(fault, 0))?;
     Ok((end, size))
+}
+
+// The basis of a text shaped as its request asks.
+pub(crate) fn shaped<F: Field + Drop, O: Order + Drop>(
+    field: F,
+    order: O,
+    n: u32,
+    text: &[u8],
+) -> Result<Basis, ShapeFault>
+    requires few { (1 ≤ n) × (n ≤ 4) }
+    ensures given { (laws : FieldLaws (F.Field.meaning field)) → Given (F.Field.meaning field) laws (O.Order.meaning order) n text.now result }
+{
+    let mut job = Job::new(field, order);
+    // A word fits a usize: `as` keeps it, and Rust has no `From` there.
+    let (end, size) = load(&mut job, n as usize, text)?;
+    let reader = reader_after(text, end);
+    let mut vector = [0u32; MOST_STAIRS];
+    let vector = &mut vector[..size];
+    let k = read_request(reader, n, vector)?;
+    let mut words = [0u32; MOST_WORDS];
+    job.convert(k as usize, vector, &mut words)
+        .map_err(|fault| TextFault::Job(fault, reader.place.line))?;
+    // `as`: there is no From<usize> for u32, and D is at most 48.
+    Ok(Basis {
+        n,
+        size: size as u32,
+        k,
+        words,
+    })
 }
