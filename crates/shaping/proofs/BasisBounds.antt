@@ -1,9 +1,8 @@
 -- The bounds of all questions: of the first line, and of a basis text and its request. With them a refusal has a line and a place that fit 32 bits.
-use Rattle.std.proofs.Common.{◌≡◌, ℕ, zero, suc, pred, ◌+◌, ◌≤◌, Bool, true, false, cond, T, List, [], ◌∷◌, ◌++◌, length, take, drop, ◌==◌, refl, ap, arith, length-append}
+use Rattle.std.proofs.Common.{◌≡◌, ℕ, zero, suc, pred, ◌+◌, ◌≤◌, Bool, true, false, cond, List, [], ◌∷◌, ◌++◌, length, take, drop, ◌==◌, refl, ap, arith, length-append}
 use Rattle.std.proofs.lemmas.List.{take-append-drop}
 use Rattle.std.proofs.lemmas.List.Sums.{count_by-le-length}
 use Rattle.field.specs.Meaning.{FieldMeaning, FieldLaws}
-use Rattle.field.specs.Primes.{listed}
 use Rattle.order.specs.Monomials.{variables}
 use Rattle.order.specs.Laws.{Comparison, OrderLaws}
 use Rattle.algebra.specs.Elements.{field_of}

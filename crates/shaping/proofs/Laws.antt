@@ -1,5 +1,5 @@
 -- The laws of the field and the order that the first line names: they hold, and the laws of a field have one proof.
-use Rattle.std.proofs.Common.{◌≡◌, ℕ, ◌≤◌, Bool, true, false, cond, T, [], ◌∷◌, Some, None, Option, ◌==◌, sym, refl, ap, ◌∙◌, subst, arith}
+use Rattle.std.proofs.Common.{◌≡◌, ℕ, Bool, true, false, cond, T, [], Some, None, Option, ◌==◌, sym, refl, ap, ◌∙◌, subst, arith}
 use mathlib.Core.HLevel.{hedberg, is_prop→PathP, ¬_prop}
 use native.Mathlib.Nat.{ℕ_set}
 use native.Mathlib.Decide.{ℕ_discrete}
@@ -7,7 +7,6 @@ use Rattle.std.proofs.Math.Dec.{T_prop}
 use Rattle.field.specs.Meaning.{FieldMeaning, FieldLaws, total}
 use Rattle.field.specs.Bytes.{bytes}
 use Rattle.field.specs.Residues.{residues}
-use Rattle.field.specs.Primes.{listed}
 use Rattle.field.specs.ByteLaws.{byte_laws}
 use Rattle.field.specs.ResidueLaws.{residue_laws}
 use Rattle.order.specs.declared.rearrangement.Rearrangement.{Rearrangement}
@@ -17,7 +16,7 @@ use Rattle.order.specs.OrderLaws.{drl_laws, lex_laws}
 use Rattle.order.specs.Renumberings.{renumbers}
 use Rattle.order.specs.Rearrangements.{reversal}
 use Rattle.order.specs.Moves.{renumbered_laws, reverses}
-use Rattle.runs.specs.Question.{single, AllYes}
+use Rattle.runs.specs.Question.{AllYes}
 use Rattle.shaping.specs.Questions.{field_by, reversed, order_by, residue_asks, field_asks}
 
 -- numbers that may be missing are a set

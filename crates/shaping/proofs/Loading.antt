@@ -1,24 +1,20 @@
 -- A new job, filled and closed: what its calls answered, as one list of questions.
-use Rattle.std.proofs.Common.{◌≡◌, ℕ, ◌≤◌, List, [], ◌∷◌, ◌++◌, OnOk, Ok, Err, Result, sym, ap, ◌∙◌, subst, arith}
+use Rattle.std.proofs.Common.{◌≡◌, ℕ, List, [], ◌∷◌, ◌++◌, OnOk, Ok, Err, Result, subst, arith}
 use Rattle.field.specs.Meaning.{FieldMeaning, FieldLaws}
 use Rattle.order.specs.Laws.{Comparison}
 use Rattle.polynomials.specs.declared.fault.JobFault.{JobFault}
-use Rattle.polynomials.specs.Faults as job
 use Rattle.polynomials.proofs.Answering.{refused_first, refused_after}
-use Rattle.runs.specs.Question.{AllYes, Refused}
-use Rattle.runs.specs.Job.{Job, new, holding}
-use Rattle.runs.specs.Text.{fill_asks, text_polynomials, text_length}
+use Rattle.runs.specs.Job.{Job, new}
+use Rattle.runs.specs.Text.{fill_asks, text_polynomials}
 use Rattle.runs.specs.Generators.{D}
 use Rattle.runs.specs.Close.{close_asks}
-use Rattle.runs.specs.Call.{fill, close, refused, accepted, Answered}
+use Rattle.runs.specs.Call.{close, Answered}
 use Rattle.runs.proofs.Questions.{yes_append}
 use Rattle.job.specs.declared.table.Table.{Table}
 use Rattle.job.specs.State.{state, Kept}
 use Rattle.job.specs.Promise.{answer_of, Promised}
 use Rattle.text.specs.declared.fault.TextFault.{TextFault}
 use Rattle.text.specs.declared.fault.TextFault.TheVariants as fault
-use Rattle.text.specs.Asked.{Faulted}
-use Rattle.text.specs.Filled as text
 use Rattle.text.specs.Filled.{Filled}
 use Rattle.shaping.specs.declared.fault.ShapeFault.TheVariants.{Text}
 use Rattle.shaping.specs.Questions.{job_of}

@@ -1,5 +1,5 @@
 -- To each input there is one answer: its questions are settled, and the basis that all yeses give exists and is one.
-use Rattle.std.proofs.Common.{◌≡◌, ℕ, ◌⊎◌, List, sym, refl, ap, ◌∙◌, subst, inl, inr}
+use Rattle.std.proofs.Common.{◌≡◌, ℕ, List, sym, refl, ap, ◌∙◌, subst}
 use Rattle.field.specs.Meaning.{FieldMeaning, FieldLaws}
 use Rattle.order.specs.Laws.{Comparison, OrderLaws}
 use Rattle.runs.specs.Question.{AllYes}

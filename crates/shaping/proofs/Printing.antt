@@ -1,8 +1,6 @@
 -- Rows of words, written as lines one after the other.
-use Rattle.std.proofs.Common.{◌≡◌, ℕ, zero, suc, ◌+◌, ◌*◌, ◌≤◌, List, ◌++◌, length, take, drop, sym, refl, ap, ◌∙◌, subst, arith, length-append, length-drop, append-nil, ◌<◌, mul-le-mul_right}
-use Rattle.std.specs.List.{AllByRecursion}
+use Rattle.std.proofs.Common.{◌≡◌, ℕ, zero, suc, ◌+◌, ◌*◌, ◌≤◌, List, ◌++◌, length, take, drop, sym, ap, ◌∙◌, arith, length-append, length-drop, append-nil, ◌<◌, mul-le-mul_right}
 use Rattle.std.proofs.lemmas.List.{append_assoc, drop-drop}
-use Rattle.column.specs.Column.{Word}
 use Rattle.column.specs.Line.{line, line_length}
 use Rattle.column.specs.Place.{put}
 use Rattle.column.proofs.Places.{put_none, put_put}

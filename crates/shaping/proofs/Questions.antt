@@ -1,8 +1,7 @@
 -- The questions of a text and a request, settled one after the other: so each is answered, and in one way.
-use Rattle.std.proofs.Common.{◌≡◌, ℕ, suc, ◌≤◌, Bool, true, false, cond, T, ◌⊎◌, List, [], ◌∷◌, ◌++◌, ◌==◌, sym, refl, ap, ◌∙◌, ap₂, inl, inr}
+use Rattle.std.proofs.Common.{◌≡◌, ℕ, suc, ◌≤◌, Bool, true, false, cond, List, [], ◌∷◌, ◌++◌, ◌==◌, sym, refl, ap, ◌∙◌, ap₂, inl, inr}
 use native.Mathlib.Decide.{ℕ_discrete, dec_le}
 use Rattle.field.specs.Meaning.{FieldMeaning, FieldLaws}
-use Rattle.field.specs.Primes.{listed}
 use Rattle.order.specs.Laws.{Comparison, OrderLaws}
 use Rattle.runs.specs.Question.{Question, single, AllYes}
 use Rattle.runs.specs.Job.{new, shut}
@@ -21,7 +20,7 @@ use Rattle.runs.proofs.Runs.{sound_kept, sound_after}
 use Rattle.runs.proofs.OneAnswer.{chain}
 use Rattle.shaping.specs.Faults.{refusal}
 use Rattle.shaping.specs.Questions.{most_bytes, most_words, in_line, residue_asks, field_asks, code_asks, header_asks, job_of, request, request_line, variable, count, vector, request_asks, basis_asks}
-use Rattle.shaping.specs.Answer.{Refuses, Told}
+use Rattle.shaping.specs.Answer.{Told}
 
 -- questions about another line
 

@@ -1,5 +1,5 @@
 -- A request: a walk over lines of one word each, in which the words so far are those of the lines so far, and all its questions.
-use Rattle.std.proofs.Common.{◌≡◌, ℕ, zero, suc, ◌+◌, ◌-◌, ◌<◌, ◌≤◌, List, [], ◌∷◌, ◌++◌, length, take, set, get_or, sym, refl, ap, ◌∙◌, subst, ap₂, arith, length-drop}
+use Rattle.std.proofs.Common.{◌≡◌, ℕ, suc, ◌+◌, ◌-◌, ◌<◌, ◌≤◌, List, [], ◌∷◌, ◌++◌, length, take, set, get_or, sym, ap, ◌∙◌, subst, ap₂, arith, length-drop}
 use Rattle.std.proofs.lemmas.List.{append_assoc, append-nil, take_more_set, take_all}
 use Rattle.polynomials.proofs.Answering.{refused_first, refused_after, single_no}
 use Rattle.runs.specs.Question.{Question, single, AllYes, Refused}

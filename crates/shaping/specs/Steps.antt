@@ -2,6 +2,7 @@
 --   RefusedBy qs f              the fault f is the first of the questions qs that gets a no, by number, line and place
 --   WordsRead k p ws r          the answer of reading k lines of one word each into ws: the reader after them, or the question that got a no
 --   Loaded                      the answer of Open, Fill and Close to a new job
+--   AtRequest                   the job is loaded, and the reader is behind the basis text
 --   first_asks l n d qs         the questions of the first line of a request
 --   FirstRead                   the answer of reading it: the variable and the reader after it, or the question that got a no
 --   RequestRead                 the answer of reading a whole request: the variable, the words standing in ws, or the question that got a no
@@ -10,7 +11,8 @@
 --   Passed qs P r               where each of the questions qs gets a yes, P r; otherwise r is the fault of the first that gets a no
 --   Ordered                     over a field: the answer for an order code and a number of variables
 --   Headed                      the answer to an input, before it is printed
-use Rattle.std.specs.Prelude.{◌≡◌, ℕ, ◌*◌, ◌≤◌, ◌⊎◌, List, [], ◌∷◌, ◌++◌, take, Ok, Err, Result}
+use Rattle.std.specs.Prelude.{◌≡◌, ℕ, suc, ◌*◌, ◌≤◌, ◌⊎◌, List, [], ◌∷◌, ◌++◌, take, Ok, Err, Result, ◌==◌}
+use Rattle.std.specs.List.{count_by}
 use Rattle.field.specs.Meaning.{FieldMeaning, FieldLaws}
 use Rattle.order.specs.Laws.{Comparison}
 use Rattle.column.specs.declared.reader.Reader.{Reader}
@@ -59,6 +61,10 @@ module _ (m : FieldMeaning) (laws : FieldLaws m) (cmp : Comparison) (n : ℕ) (b
   abbrev pub Loaded : Job → Result (ℕ × ℕ) ShapeFault → Type 0
   Loaded j (Ok a) = JobLoaded j a.0 a.1
   Loaded j (Err f) = RefusedBy (fill_asks m cmp (new n) bs ++ close_asks m laws cmp (job_of n bs)) f
+
+  pub record AtRequest (j : Job) (size : ℕ) (p : Reader) : Type 0 where
+    pub loaded : JobLoaded j p.place.at size
+    pub line : p.place.line ≡ suc (count_by (λ b. b == 10) (take p.place.at bs))
 
   pub record BasisGiven (b : Basis) : Type 0 where
     pub asked : AllYes (basis_asks m laws cmp n bs)

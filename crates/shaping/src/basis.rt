@@ -5,11 +5,12 @@ ghost use Rattle.field.specs.Meaning.{FieldLaws};
 ghost use Rattle.runs.specs.Job.{new};
 ghost use Rattle.job.specs.State.{state, Kept};
 ghost use Rattle.text.specs.Filled.{Filled};
-ghost use Rattle.shaping.specs.Steps.{Loaded, Given};
+ghost use Rattle.shaping.specs.Steps.{Loaded, AtRequest, Given};
 
 use crate::ShapeFault;
 use crate::request::{read_request, reader_after};
 use crate::rows::{Basis, MOST_WORDS};
+use column::Reader;
 use field::Field;
 use job::Job;
 use order::Order;
@@ -50,7 +51,32 @@ fn load<F: Field, O: Order>(
     Ok((end, size))
 }
 
-// The basis of a text shaped as its request asks.
+// Shapes the basis that a loaded job of n variables has, as the request asks that the reader is at.
+fn shape<F: Field, O: Order>(
+    job: &Job<F, O>,
+    n: u32,
+    size: usize,
+    reader: Reader<'_>,
+) -> Result<Basis, ShapeFault>
+    requires few { (n ≤ 4) × (size ≤ 48) }
+    ensures given { (laws : FieldLaws (F.Field.meaning job.now.field)) → Kept (F.Field.meaning job.now.field) laws (O.Order.meaning job.now.order) job.now.table → AtRequest (F.Field.meaning job.now.field) laws (O.Order.meaning job.now.order) n reader.entry.text.now (state job.now.table) size reader.entry → Given (F.Field.meaning job.now.field) laws (O.Order.meaning job.now.order) n reader.entry.text.now result }
+{
+    let mut vector = [0u32; MOST_STAIRS];
+    let vector = &mut vector[..size];
+    let k = read_request(reader, n, vector)?;
+    let mut words = [0u32; MOST_WORDS];
+    // `as`: a word fits a usize, and D, at most 48, a word; Rust has no `From` for either.
+    job.convert(k as usize, vector, &mut words)
+        .map_err(|fault| TextFault::Job(fault, reader.place.line))?;
+    Ok(Basis {
+        n,
+        size: size as u32,
+        k,
+        words,
+    })
+}
+
+// The basis of a text of n variables, shaped as the request asks that follows it.
 pub(crate) fn shaped<F: Field + Drop, O: Order + Drop>(
     field: F,
     order: O,
@@ -63,18 +89,5 @@ pub(crate) fn shaped<F: Field + Drop, O: Order + Drop>(
     let mut job = Job::new(field, order);
     // A word fits a usize: `as` keeps it, and Rust has no `From` there.
     let (end, size) = load(&mut job, n as usize, text)?;
-    let reader = reader_after(text, end);
-    let mut vector = [0u32; MOST_STAIRS];
-    let vector = &mut vector[..size];
-    let k = read_request(reader, n, vector)?;
-    let mut words = [0u32; MOST_WORDS];
-    job.convert(k as usize, vector, &mut words)
-        .map_err(|fault| TextFault::Job(fault, reader.place.line))?;
-    // `as`: there is no From<usize> for u32, and D is at most 48.
-    Ok(Basis {
-        n,
-        size: size as u32,
-        k,
-        words,
-    })
+    shape(&job, n, size, reader_after(text, end))
 }

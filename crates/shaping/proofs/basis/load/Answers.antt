@@ -37,7 +37,7 @@ returns-clause-kept g c laws =
     (with_same g.F.Field.meaning g.O.Order.meaning _ _ _ _ c.fill_new.ensures.same_field_and_order (λ m cmp. Promised m cmp c.fill_new.new.job.table close (answer_of (λ d. d ∷ []) c.close.result) c.close.new.self.table) c.close.ensures.promised).kept laws (c.fill_new.ensures.kept laws)
 
 pub returns-clause-few : goal.returns-clause-few
-returns-clause-few g c = 
+returns-clause-few g c =
     let laws = g.met.F.Field.lawful c.args.job.now.field in
     let promised = with_same g.F.Field.meaning g.O.Order.meaning _ _ _ _ c.fill_new.ensures.same_field_and_order (λ m cmp. Promised m cmp c.fill_new.new.job.table close (answer_of (λ d. d ∷ []) c.close.result) c.close.new.self.table) c.close.ensures.promised in
     let is = mapped (λ f. fault.Job f 0) c.close.result c.map_err.result _ (λ e d k. search rules) c.map_err.ensures.cases in

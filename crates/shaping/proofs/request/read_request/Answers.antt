@@ -1,4 +1,4 @@
-use Rattle.std.proofs.Common.{◌≡◌, length}
+use Rattle.std.proofs.Common.{length}
 use Rattle.std.proofs.lemmas.Result.{err_from_is_err_and}
 use Rattle.shaping.proofs.Requests.{words_refused, more_follows, request_passed, vector_is}
 use Rattle.shaping.proofs.request.read_request.Goals as goal

@@ -1,4 +1,4 @@
-use Rattle.std.proofs.Common.{ℕ, length, Ok, ◌∙◌, refl, subst, arith, rules}
+use Rattle.std.proofs.Common.{ℕ, length, Ok, ◌∙◌, refl, subst, arith}
 use Rattle.std.proofs.lemmas.Result.{err_from_is_err_and}
 use Rattle.column.specs.Walk.{left}
 use Rattle.runs.specs.Text.{line_asks}

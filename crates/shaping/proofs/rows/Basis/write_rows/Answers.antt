@@ -1,8 +1,6 @@
-use Rattle.std.proofs.Common.{◌≡◌, ℕ, ◌+◌, ◌*◌, ◌≤◌, length, Option, unwrap_or, sym, ap, ◌∙◌, subst, arith, length-drop, mul-le-mul_right, add-mul, one-mul}
+use Rattle.std.proofs.Common.{◌≡◌, ℕ, length, Option, unwrap_or, sym, ap, ◌∙◌, subst, arith}
 use Rattle.column.specs.Line.{line, line_length}
-use Rattle.column.proofs.Lines.{words_from_fits, line_length_is}
 use Rattle.column.proofs.Places.{with_room}
-use Rattle.shaping.specs.Answer.{rows}
 use Rattle.shaping.proofs.Printing.{RowsWritten, rows_none, rows_next, row_room, row_left}
 use Rattle.shaping.proofs.rows.Basis.write_rows.Goals as goal
 
@@ -20,7 +18,7 @@ loop-i-preserved c =
     let room = row_room d c.args.self.now.n c.loop-i._i c.args.at (length c.args.out.now) c.loop-i-test.true c.requires.room in
     let p = with_room c.loop-i.out (line ws) c.loop-i.end (line_length d) long (omega (arith, room, c.loop-i.invariant.place, c.loop-i.auto.out)) in
     rows_next d c.loop-i._i c.args.self.now.words c.args.out.now c.loop-i.left.now c.loop-i.out c.write_line.new.out ws c.split_at.result.1.now c.args.at c.loop-i.end c.unwrap_or-end.result
-      room c.split_at.ensures.front c.split_at.ensures.back long (c.write_line.ensures.rest_unchanged ∙ sym p.1) (c.unwrap_or-end.ensures ∙ ap (λ (o : Option ℕ). unwrap_or o c.loop-i.end) (c.write_line.ensures.place_after ∙ sym p.0)) c.loop-i.invariant
+    room c.split_at.ensures.front c.split_at.ensures.back long (c.write_line.ensures.rest_unchanged ∙ sym p.1) (c.unwrap_or-end.ensures ∙ ap (λ (o : Option ℕ). unwrap_or o c.loop-i.end) (c.write_line.ensures.place_after ∙ sym p.0)) c.loop-i.invariant
 
 pub returns : goal.returns
 returns c =
