@@ -1,5 +1,7 @@
 -- What the private functions of the crate answer, one after the other. Inner: no public contract cites it.
 --   RefusedBy qs f              the fault f is the first of the questions qs that gets a no, by number, line and place
+--   Asked qs r                  r is the answer to the questions qs: accepted if all get a yes, else the first that gets a no
+--   Reverses below n r          r is the order below with the variables 1 to n reversed
 --   WordsRead k p ws r          the answer of reading k lines of one word each into ws: the reader after them, or the question that got a no
 --   Loaded                      the answer of Open, Fill and Close to a new job
 --   AtRequest                   the job is loaded, and the reader is behind the basis text
@@ -11,10 +13,14 @@
 --   Passed qs P r               where each of the questions qs gets a yes, P r; otherwise r is the fault of the first that gets a no
 --   Ordered                     over a field: the answer for an order code and a number of variables
 --   Headed                      the answer to an input, before it is printed
-use Rattle.std.specs.Prelude.{◌≡◌, ℕ, suc, ◌*◌, ◌≤◌, ◌⊎◌, List, [], ◌∷◌, ◌++◌, take, Ok, Err, Result, ◌==◌}
+use Rattle.std.specs.Prelude.{◌≡◌, ℕ, suc, ◌*◌, ◌≤◌, ◌⊎◌, List, [], ◌∷◌, ◌++◌, take, Some, Ok, Err, Result, ◌==◌}
 use Rattle.std.specs.List.{count_by}
 use Rattle.field.specs.Meaning.{FieldMeaning, FieldLaws}
+use Rattle.order.specs.declared.rearrangement.Rearrangement.{Rearrangement}
+use Rattle.order.specs.declared.renumbered.Renumbered.{Renumbered}
 use Rattle.order.specs.Laws.{Comparison}
+use Rattle.order.specs.Rearrangements.{reversal}
+use Rattle.order.specs.Renumberings.{renumbered}
 use Rattle.column.specs.declared.reader.Reader.{Reader}
 use Rattle.column.specs.Walk.{left}
 use Rattle.runs.specs.Question.{Question, single, AllYes, Refused}
@@ -34,6 +40,13 @@ use Rattle.shaping.specs.Questions.{field_by, order_by, code_asks, header_asks, 
 
 abbrev pub RefusedBy : List Question → ShapeFault → Type 0
 RefusedBy qs f = Refused qs (number_of f) (line_of f) (place_of f)
+
+abbrev pub Asked : {A : Type 0} → List Question → Result A ShapeFault → Type 0
+Asked qs (Ok a) = AllYes qs
+Asked qs (Err f) = RefusedBy qs f
+
+abbrev pub Reverses : {O : Type 0} → O → ℕ → Renumbered O → Type 0
+Reverses below n r = (s : Rearrangement) × (reversal n ≡ Some s) × (renumbered below s ≡ Ok r)
 
 abbrev pub WordsRead : ℕ → Reader → List ℕ → Result Reader TextFault → Type 0
 WordsRead k p ws (Ok q) = LinesPassed 1 k p q × (ws ≡ column k (left p))

@@ -16,6 +16,7 @@ pub(crate) struct Basis {
     pub size: u32,
     pub k: u32,
     pub words: [u32; MOST_WORDS],
+    pub ghost few: { n ≤ 4 },
     pub ghost within: { n * size ≤ 192 },
 }
 
@@ -24,6 +25,7 @@ impl Basis {
     fn write_rows(&self, out: &mut [u8], at: usize) -> usize
         requires room { at + self.now.n * (11 * self.now.size + 1) ≤ length out.old }
         ensures end { result ≡ at + length (rows self.now.size self.now.n self.now.words) }
+        ensures after { result ≡ at + self.now.n * (11 * self.now.size + 1) }
         ensures bytes { out.new ≡ put out.old at (rows self.now.size self.now.n self.now.words) }
     {
         let mut end = at;
@@ -40,8 +42,9 @@ impl Basis {
 
     // Writes the lines of the basis at the front of `out`, which has room for them, and answers how many bytes.
     pub(crate) fn write(&self, out: &mut [u8]) -> usize
-        requires room { 45 + self.now.n * (11 * self.now.size + 1) ≤ length out.old }
+        requires room { 2161 ≤ length out.old }
         ensures end { result ≡ length (basis_lines self.now.n self.now.size self.now.k self.now.words) }
+        ensures within { result ≤ 2161 }
         ensures bytes { out.new ≡ put out.old 0 (basis_lines self.now.n self.now.size self.now.k self.now.words) }
     {
         let first = write_line(out, 0, &[0, self.n, self.size, self.k]).unwrap_or(0);

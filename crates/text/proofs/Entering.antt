@@ -11,6 +11,7 @@ use Rattle.runs.specs.Job as job
 use Rattle.runs.specs.Job.{Stage, Job, opened, holding}
 use Rattle.runs.specs.Enter.{room_asks, terms_asks, enter_asks}
 use Rattle.runs.specs.Text.{words, next, terms, past_terms, term_count, polynomial, past, polynomials, past_all, header_n, header_count, text_length, line_asks, lines_asks, polynomial_asks, polynomials_asks, fill_asks}
+use Rattle.runs.specs.Writing.{field_code, order_code}
 use Rattle.runs.proofs.Questions.{yes_append, yes_rest}
 use Rattle.runs.proofs.Texts.{length_terms, body_asks, later_asks, header_asks}
 use Rattle.column.specs.declared.reader.Reader.{Reader}
@@ -235,3 +236,6 @@ module _ (bytes : List ℕ) (h : ℕ × ℕ × ℕ × ℕ) (e : Ok h ≡ header_
 
   pub header_numbers : (h.2 ≡ header_n bytes) × (h.3 ≡ header_count bytes)
   header_numbers = let x = header_words (reading_line 4 bytes) refl e in (ap (λ (a : ℕ × ℕ × ℕ × ℕ). a.2) x, ap (λ (a : ℕ × ℕ × ℕ × ℕ). a.3) x)
+
+  pub header_codes : (h.0 ≡ field_code bytes) × (h.1 ≡ order_code bytes)
+  header_codes = let x = header_words (reading_line 4 bytes) refl e in (ap (λ (a : ℕ × ℕ × ℕ × ℕ). a.0) x, ap (λ (a : ℕ × ℕ × ℕ × ℕ). a.1) x)

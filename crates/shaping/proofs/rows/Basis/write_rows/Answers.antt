@@ -24,4 +24,4 @@ pub returns : goal.returns
 returns c =
     let whole : c.loop-i._i ≡ c.args.self.now.n = omega arith in
     let l = subst (λ (i : ℕ). RowsWritten c.args.self.now.size c.args.self.now.words c.args.out.now c.args.at i c.loop-i.left.now c.loop-i.out c.loop-i.end) whole c.loop-i.invariant in
-    record { end = omega (arith, l.place, l.long); bytes = l.bytes }
+    record { end = omega (arith, l.place, l.long); after = l.place; bytes = l.bytes }
