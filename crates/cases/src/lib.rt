@@ -9,3 +9,5 @@ mod fields;
 mod orders;
 #[cfg(test)]
 mod probes;
+#[cfg(test)]
+mod shapes;
