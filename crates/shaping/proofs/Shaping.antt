@@ -17,7 +17,7 @@ use Rattle.runs.proofs.Questions.{yes_append}
 use Rattle.polynomials.specs.declared.fault.JobFault.{JobFault}
 use Rattle.polynomials.proofs.Answering.{refused_first, refused_after}
 use Rattle.job.specs.declared.table.Table.{Table}
-use Rattle.job.specs.State.{stairs_held, state, Kept}
+use Rattle.job.specs.State.{stairs_held, state}
 use Rattle.job.specs.Promise.{answer_of, Promised}
 use Rattle.text.specs.declared.fault.TextFault.TheVariants as fault
 use Rattle.shaping.specs.declared.fault.ShapeFault.{ShapeFault}
@@ -59,7 +59,7 @@ module _ (m : FieldMeaning) (laws : FieldLaws m) (cmp : Comparison) (n : ℕ) (b
   load_refused f r = subst (λ (qs : List Question). RefusedBy qs f) in_two (refused_first (fills ++ closes) after _ _ _ r)
 
   -- the job is loaded, and p is at the request
-  module _ (t : Table) (size : ℕ) (p : Reader) (here : AtRequest m laws cmp n bs (state t) size p) (text : p.text.now ≡ bs) where
+  module _ (t : Table) (size : ℕ) (p : Reader) (here : AtRequest m laws cmp n bs t size p) where
     abbrev L : JobLoaded m laws cmp n bs (state t) p.place.at size
     L = here.loaded
 
@@ -70,7 +70,7 @@ module _ (m : FieldMeaning) (laws : FieldLaws m) (cmp : Comparison) (n : ℕ) (b
     shapes = in_line (request_line n bs) (shape_asks m laws cmp n bs)
 
     left_is : left p ≡ request n bs
-    left_is = ap₂ (λ (k : ℕ) (xs : List ℕ). drop k xs) L.end_is text
+    left_is = ap₂ (λ (k : ℕ) (xs : List ℕ). drop k xs) L.end_is here.text
 
     line_is : p.place.line ≡ request_line n bs
     line_is = here.line ∙ ap (λ (k : ℕ). suc (count_by (λ b. b == 10) (take k bs))) L.end_is
@@ -86,7 +86,7 @@ module _ (m : FieldMeaning) (laws : FieldLaws m) (cmp : Comparison) (n : ℕ) (b
 
     -- the request is read, and Convert answered
     module _ (k : ℕ) (ws : List ℕ) (asked : AllYes (request_asks p.place.line n size (left p))) (k_is : k ≡ variable (left p)) (ws_are : ws ≡ vector (left p))
-        (kept : Kept m laws cmp t) (out : List ℕ) (r : Result Unit JobFault) (promised : Promised m cmp t (convert k ws most_words) (answer_of (λ _. take (t.n * stairs_held t.tables) out) r) t) where
+        (out : List ℕ) (r : Result Unit JobFault) (promised : Promised m cmp t (convert k ws most_words) (answer_of (λ _. take (t.n * stairs_held t.tables) out) r) t) where
       request_yes : AllYes (request_asks (request_line n bs) n d (request n bs))
       request_yes = subst AllYes requests_are asked
 
@@ -98,7 +98,7 @@ module _ (m : FieldMeaning) (laws : FieldLaws m) (cmp : Comparison) (n : ℕ) (b
 
       answered : (s : Result Unit JobFault) → r ≡ s → Answered m laws cmp (shut (job_of n bs)) (convert (variable (request n bs)) (vector (request n bs)) most_words) (answer_of (λ _. take (t.n * stairs_held t.tables) out) s) (state t)
       answered s e =
-          let a = subst (λ (x : Result Unit JobFault). Answered m laws cmp (state t) (convert k ws most_words) (answer_of (λ _. take (t.n * stairs_held t.tables) out) x) (state t)) e (promised.answered laws kept) in
+          let a = subst (λ (x : Result Unit JobFault). Answered m laws cmp (state t) (convert k ws most_words) (answer_of (λ _. take (t.n * stairs_held t.tables) out) x) (state t)) e (promised.answered laws here.kept) in
           let b = subst (λ (x : ℕ). Answered m laws cmp (state t) (convert x ws most_words) (answer_of (λ _. take (t.n * stairs_held t.tables) out) s) (state t)) variable_is a in
           let c = subst (λ (x : List ℕ). Answered m laws cmp (state t) (convert (variable (request n bs)) x most_words) (answer_of (λ _. take (t.n * stairs_held t.tables) out) s) (state t)) vector_are b in
           subst (λ (j : Job). Answered m laws cmp j (convert (variable (request n bs)) (vector (request n bs)) most_words) (answer_of (λ _. take (t.n * stairs_held t.tables) out) s) (state t)) L.holds c
@@ -122,11 +122,3 @@ module _ (m : FieldMeaning) (laws : FieldLaws m) (cmp : Comparison) (n : ℕ) (b
             k_is = k_is ∙ variable_is;
             written = subst (Written m laws cmp n (text_polynomials n bs) (variable (request n bs)) (vector (request n bs))) front a.1;
           }
-
--- a reader made behind the basis text
-pub at_request : (m : FieldMeaning) (laws : FieldLaws m) (cmp : Comparison) (n : ℕ) (bs : List ℕ) (j : Job) (end size : ℕ) (p : Reader) → p.text.now ≡ bs → p.place.at ≡ end → p.place.line ≡ suc (count_by (λ b. b == 10) (take end bs)) → JobLoaded m laws cmp n bs j end size
-    → AtRequest m laws cmp n p.text.now j size p
-at_request m laws cmp n bs j end size p text at line loaded = record {
-  loaded = subst (λ (xs : List ℕ). JobLoaded m laws cmp n xs j p.place.at size) (sym text) (subst (λ (e : ℕ). JobLoaded m laws cmp n bs j e size) (sym at) loaded);
-  line = line ∙ ap₂ (λ (e : ℕ) (xs : List ℕ). suc (count_by (λ b. b == 10) (take e xs))) (sym at) (sym text);
-}

@@ -3,8 +3,10 @@
 --   Asked qs r                  r is the answer to the questions qs: accepted if all get a yes, else the first that gets a no
 --   Reverses below n r          r is the order below with the variables 1 to n reversed
 --   WordsRead k p ws r          the answer of reading k lines of one word each into ws: the reader after them, or the question that got a no
---   Loaded                      the answer of Open, Fill and Close to a new job
---   AtRequest                   the job is loaded, and the reader is behind the basis text
+--   Closed                      the job u answered Close by r from the job t, and is again a job as calls leave it
+--   JobLoaded                   a new job, filled and closed, and all questions of both got a yes
+--   AtRequest                   such a job is loaded, and the reader is behind the basis text
+--   Loaded                      the answer of Open, Fill and Close to a new job: it is loaded, or the question that got a no
 --   first_asks l n d qs         the questions of the first line of a request
 --   FirstRead                   the answer of reading it: the variable and the reader after it, or the question that got a no
 --   RequestRead                 the answer of reading a whole request: the variable, the words standing in ws, or the question that got a no
@@ -30,8 +32,12 @@ use Rattle.runs.specs.Writing.{field_code, order_code}
 use Rattle.runs.specs.Generators.{D}
 use Rattle.runs.specs.Close.{close_asks}
 use Rattle.runs.specs.Convert.{Written}
+use Rattle.runs.specs.Call.{close, Answered}
+use Rattle.job.specs.declared.table.Table.{Table}
+use Rattle.job.specs.State.{state, Kept}
 use Rattle.text.specs.declared.fault.TextFault.{TextFault}
 use Rattle.text.specs.Asked.{Faulted}
+use Rattle.text.specs.Filled.{answer_of}
 use Rattle.text.specs.Steps.{LinePassed, LinesPassed}
 use Rattle.shaping.specs.declared.fault.ShapeFault.{ShapeFault}
 use Rattle.shaping.specs.declared.rows.Basis.{Basis}
@@ -52,6 +58,10 @@ abbrev pub WordsRead : ℕ → Reader → List ℕ → Result Reader TextFault �
 WordsRead k p ws (Ok q) = LinesPassed 1 k p q × (ws ≡ column k (left p))
 WordsRead k p ws (Err f) = Faulted (lines_asks p.place.line 1 k (left p)) f
 
+pub record Closed (m : FieldMeaning) (laws : FieldLaws m) (cmp : Comparison) (t u : Table) (r : Result ℕ TextFault) : Type 0 where
+  pub answered : Answered m laws cmp (state t) close (answer_of r) (state u)
+  pub kept : Kept m laws cmp u
+
 abbrev pub first_asks : ℕ → ℕ → ℕ → List ℕ → List Question
 first_asks l n d qs = line_asks l 2 qs ++ (single 20 l ((1 ≤ variable qs) × (variable qs ≤ n)) ∷ single 21 l (count qs ≡ d) ∷ [])
 
@@ -71,13 +81,15 @@ module _ (m : FieldMeaning) (laws : FieldLaws m) (cmp : Comparison) (n : ℕ) (b
     pub few : size ≤ 48
     pub holds : j ≡ shut (job_of n bs)
 
-  abbrev pub Loaded : Job → Result (ℕ × ℕ) ShapeFault → Type 0
-  Loaded j (Ok a) = JobLoaded j a.0 a.1
-  Loaded j (Err f) = RefusedBy (fill_asks m cmp (new n) bs ++ close_asks m laws cmp (job_of n bs)) f
-
-  pub record AtRequest (j : Job) (size : ℕ) (p : Reader) : Type 0 where
-    pub loaded : JobLoaded j p.place.at size
+  pub record AtRequest (t : Table) (size : ℕ) (p : Reader) : Type 0 where
+    pub loaded : JobLoaded (state t) p.place.at size
+    pub kept : Kept m laws cmp t
+    pub text : p.text.now ≡ bs
     pub line : p.place.line ≡ suc (count_by (λ b. b == 10) (take p.place.at bs))
+
+  abbrev pub Loaded : Table → Result (Reader × ℕ) ShapeFault → Type 0
+  Loaded t (Ok a) = AtRequest t a.1 a.0
+  Loaded t (Err f) = RefusedBy (fill_asks m cmp (new n) bs ++ close_asks m laws cmp (job_of n bs)) f
 
   pub record BasisGiven (b : Basis) : Type 0 where
     pub asked : AllYes (basis_asks m laws cmp n bs)

@@ -1,11 +1,11 @@
 // A basis text and its request over one field and one order: Open, Fill and Close of a job, the request,
 // and Convert. One text for every field and order.
-ghost use Rattle.std.specs.Prelude.{◌≡◌, ◌≤◌, IfOk};
+ghost use Rattle.std.specs.Prelude.{◌≡◌, ℕ, ◌≤◌, List};
 ghost use Rattle.field.specs.Meaning.{FieldLaws};
 ghost use Rattle.runs.specs.Job.{new};
 ghost use Rattle.job.specs.State.{state, Kept};
 ghost use Rattle.text.specs.Filled.{Filled};
-ghost use Rattle.shaping.specs.Steps.{Loaded, AtRequest, Given};
+ghost use Rattle.shaping.specs.Steps.{Closed, Loaded, AtRequest, Given};
 
 use crate::ShapeFault;
 use crate::request::{read_request, reader_after};
@@ -34,21 +34,27 @@ fn fill_new<F: Field, O: Order>(
     fill(job, text)
 }
 
-// Fills and closes a new job of n variables: the number of bytes read, and D.
-fn load<F: Field, O: Order>(
+// Closes a job, and answers D. What is refused is about no line.
+fn close<F: Field, O: Order>(job: &mut Job<F, O>) -> Result<usize, TextFault>
+    ensures closed { (laws : FieldLaws (F.Field.meaning job.old.field)) → Kept (F.Field.meaning job.old.field) laws (O.Order.meaning job.old.order) job.old.table → Closed (F.Field.meaning job.old.field) laws (O.Order.meaning job.old.order) job.old.table job.new.table result }
+    ensures same_field_and_order { (job.new.field ≡ job.old.field) × (job.new.order ≡ job.old.order) }
+{
+    job.close().map_err(|fault| TextFault::Job(fault, 0))
+}
+
+// Fills and closes a new job of n variables: the reader at the request, and D.
+fn load<'a, F: Field, O: Order>(
     job: &mut Job<F, O>,
     n: usize,
-    text: &[u8],
-) -> Result<(usize, usize), ShapeFault>
+    text: &'a [u8],
+) -> Result<(Reader<'a>, usize), ShapeFault>
     requires few { (1 ≤ n) × (n ≤ 4) }
-    ensures loaded { (laws : FieldLaws (F.Field.meaning job.old.field)) → Loaded (F.Field.meaning job.old.field) laws (O.Order.meaning job.old.order) n text.now (state job.new.table) result }
-    ensures kept { (laws : FieldLaws (F.Field.meaning job.old.field)) → Kept (F.Field.meaning job.old.field) laws (O.Order.meaning job.old.order) job.new.table }
+    ensures loaded { (laws : FieldLaws (F.Field.meaning job.old.field)) → Loaded (F.Field.meaning job.old.field) laws (O.Order.meaning job.old.order) n text.now job.new.table result }
     ensures same_field_and_order { (job.new.field ≡ job.old.field) × (job.new.order ≡ job.old.order) }
-    ensures few { IfOk result (λ a. a.1 ≤ 48) }
 {
     let end = fill_new(job, n, text)?;
-    let size = job.close().map_err(|fault| TextFault::Job(fault, 0))?;
-    Ok((end, size))
+    let size = close(job)?;
+    Ok((reader_after(text, end), size))
 }
 
 // Shapes the basis that a loaded job of n variables has, as the request asks that the reader is at.
@@ -59,7 +65,7 @@ fn shape<F: Field, O: Order>(
     reader: Reader<'_>,
 ) -> Result<Basis, ShapeFault>
     requires few { (n ≤ 4) × (size ≤ 48) }
-    ensures given { (laws : FieldLaws (F.Field.meaning job.now.field)) → Kept (F.Field.meaning job.now.field) laws (O.Order.meaning job.now.order) job.now.table → AtRequest (F.Field.meaning job.now.field) laws (O.Order.meaning job.now.order) n reader.entry.text.now (state job.now.table) size reader.entry → Given (F.Field.meaning job.now.field) laws (O.Order.meaning job.now.order) n reader.entry.text.now result }
+    ensures given { (laws : FieldLaws (F.Field.meaning job.now.field)) → (bs : List ℕ) → AtRequest (F.Field.meaning job.now.field) laws (O.Order.meaning job.now.order) n bs job.now.table size reader.entry → Given (F.Field.meaning job.now.field) laws (O.Order.meaning job.now.order) n bs result }
 {
     let mut vector = [0u32; MOST_STAIRS];
     let vector = &mut vector[..size];
@@ -88,6 +94,6 @@ pub(crate) fn shaped<F: Field + Drop, O: Order + Drop>(
 {
     let mut job = Job::new(field, order);
     // A word fits a usize: `as` keeps it, and Rust has no `From` there.
-    let (end, size) = load(&mut job, n as usize, text)?;
-    shape(&job, n, size, reader_after(text, end))
+    let (reader, size) = load(&mut job, n as usize, text)?;
+    shape(&job, n, size, reader)
 }
