@@ -1,11 +1,11 @@
 -- A request: a walk over lines of one word each, in which the words so far are those of the lines so far, and all its questions.
-use Rattle.std.proofs.Common.{◌≡◌, ℕ, suc, ◌+◌, ◌-◌, ◌<◌, ◌≤◌, List, [], ◌∷◌, ◌++◌, length, take, set, get_or, sym, ap, ◌∙◌, subst, ap₂, arith, length-drop}
+use Rattle.std.proofs.Common.{◌≡◌, ℕ, suc, ◌+◌, ◌-◌, ◌<◌, ◌≤◌, List, [], ◌∷◌, ◌++◌, length, take, set, get_or, inl, sym, refl, ap, ◌∙◌, subst, ap₂, arith, length-drop}
 use Rattle.std.proofs.lemmas.List.{append_assoc, append-nil, take_more_set, take_all}
-use Rattle.polynomials.proofs.Answering.{refused_first, refused_after, single_no}
+use Rattle.polynomials.proofs.Answering.{refused_first, refused_after}
 use Rattle.runs.specs.Question.{Question, single, AllYes, Refused}
 use Rattle.runs.specs.Text.{words, next, past_terms, lines_asks}
 use Rattle.runs.proofs.Questions.{yes_append}
-use Rattle.job.proofs.Promises.{no_members}
+use Rattle.std.proofs.lemmas.List.{nil_from_length}
 use Rattle.column.specs.declared.reader.Reader.{Reader}
 use Rattle.column.specs.Walk.{left}
 use Rattle.text.specs.Steps.{LinePassed, LinesPassed, LinesWalked}
@@ -71,9 +71,9 @@ module _ (n d : ℕ) (p q : Reader) (yes : AllYes (first_asks p.place.line n d (
     pub more_follows : r.place.at < length r.text.now → Refused (request_asks p.place.line n d (left p)) 30 0 0
     more_follows h =
         let no : (past_terms 1 (count (left p)) (next 2 (left p)) ≡ []) → ⊥ = λ e. omega (arith, h, length-drop r.place.at r.text.now, ap length (rest_is ∙ e)) in
-        refused_after (first_asks p.place.line n d (left p)) (lines ++ over) 30 0 0 yes (refused_after lines over 30 0 0 lines_yes (single_no 30 0 no))
+        refused_after (first_asks p.place.line n d (left p)) (lines ++ over) 30 0 0 yes (refused_after lines over 30 0 0 lines_yes (inl (no, refl, refl, refl)))
 
     pub request_passed : length r.text.now ≤ r.place.at → AllYes (request_asks p.place.line n d (left p))
     request_passed h =
-        let empty = no_members (left r) (omega (arith, h, length-drop r.place.at r.text.now)) in
+        let empty = nil_from_length (left r) (omega (arith, h, length-drop r.place.at r.text.now)) in
         yes_append (first_asks p.place.line n d (left p)) (lines ++ over) yes (yes_append lines over lines_yes (sym rest_is ∙ empty, tt))
