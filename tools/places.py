@@ -9,12 +9,15 @@ import re
 import subprocess
 import sys
 
+# Tests, and the crates that came when the pass was done.
+LEFT_OUT = ('cases', 'shaping', 'shape')
+
 FUNCTION = re.compile(r'fn (\w+)(?:<[^()]*>)?\(([^{]*?)\)((?:\s*->\s*[^{]*?)?)(?=\s*(?:requires|ensures|where|\{|;))', re.S)
 
 
 def sources():
     names = subprocess.check_output(['git', 'ls-files', 'crates/*/src/*.rt'], text=True).split()
-    return [(n, open(n).read()) for n in names if not n.startswith('crates/cases/')]
+    return [(n, open(n).read()) for n in names if n.split('/')[1] not in LEFT_OUT]
 
 
 def line_of(text, at):
