@@ -75,7 +75,7 @@ def twins():
     for name, text in sources():
         for m in re.finditer(r'\n( *)(?:pub(?:\(\w+\))? )?fn (\w+)', text):
             body = re.search(r'\n' + m.group(1) + r'\{\n(.*?)\n' + m.group(1) + r'\}', text[m.end():], re.S)
-            if body and body.group(1).count('\n') >= 2:
+            if body and body.group(1).count('\n') >= 2 and not re.search(r'\bfn \w', text[m.end():m.end() + body.start()]):
                 shape = re.sub(r'\.rev\(\)|\b[A-Z]\w*\b|\b\w+\b(?=\()|\d+', '_', ' '.join(body.group(1).split()))
                 shape = re.sub(r'\b(?!for\b|if\b|let\b|return\b|match\b|while\b)\w+\b', '_', shape)
                 by_shape[shape].append(f'{name}:{line_of(text, m.start() + 1)}: fn {m.group(2)}')
