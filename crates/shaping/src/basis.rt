@@ -3,6 +3,7 @@
 ghost use Rattle.std.specs.Prelude.{◌≡◌, ℕ, ◌≤◌, List};
 ghost use Rattle.field.specs.Meaning.{FieldLaws};
 ghost use Rattle.runs.specs.Job.{new};
+ghost use Rattle.job.specs.Parts.{SameFieldAndOrder};
 ghost use Rattle.job.specs.State.{state, Kept};
 ghost use Rattle.text.specs.Filled.{Filled};
 ghost use Rattle.shaping.specs.Steps.{Closed, Loaded, AtRequest, Given};
@@ -28,7 +29,7 @@ fn fill_new<F: Field, O: Order>(
     requires few { (1 ≤ n) × (n ≤ 4) }
     ensures filled { Filled (F.Field.meaning job.old.field) (O.Order.meaning job.old.order) text.now (new n) (state job.new.table) result }
     ensures kept { (laws : FieldLaws (F.Field.meaning job.old.field)) → Kept (F.Field.meaning job.old.field) laws (O.Order.meaning job.old.order) job.new.table }
-    ensures same_field_and_order { (job.new.field ≡ job.old.field) × (job.new.order ≡ job.old.order) }
+    ensures same_field_and_order { SameFieldAndOrder job.old job.new }
 {
     job.open(n).map_err(|fault| TextFault::Job(fault, 1))?;
     fill(job, text)
@@ -37,7 +38,7 @@ fn fill_new<F: Field, O: Order>(
 // Closes a job, and answers D. What is refused is about no line.
 fn close<F: Field, O: Order>(job: &mut Job<F, O>) -> Result<usize, TextFault>
     ensures closed { (laws : FieldLaws (F.Field.meaning job.old.field)) → Kept (F.Field.meaning job.old.field) laws (O.Order.meaning job.old.order) job.old.table → Closed (F.Field.meaning job.old.field) laws (O.Order.meaning job.old.order) job.old.table job.new.table result }
-    ensures same_field_and_order { (job.new.field ≡ job.old.field) × (job.new.order ≡ job.old.order) }
+    ensures same_field_and_order { SameFieldAndOrder job.old job.new }
 {
     job.close().map_err(|fault| TextFault::Job(fault, 0))
 }
@@ -50,7 +51,7 @@ fn load<'a, F: Field, O: Order>(
 ) -> Result<(Reader<'a>, usize), ShapeFault>
     requires few { (1 ≤ n) × (n ≤ 4) }
     ensures loaded { (laws : FieldLaws (F.Field.meaning job.old.field)) → Loaded (F.Field.meaning job.old.field) laws (O.Order.meaning job.old.order) n text.now job.new.table result }
-    ensures same_field_and_order { (job.new.field ≡ job.old.field) × (job.new.order ≡ job.old.order) }
+    ensures same_field_and_order { SameFieldAndOrder job.old job.new }
 {
     let end = fill_new(job, n, text)?;
     let size = close(job)?;
