@@ -1,13 +1,13 @@
 -- The answer of the program to every input.
---   rows d w            the words w, in lines of d words
---   basis_lines         a line of 0, n, D and the variable, then a row for each variable
---   Refuses qs out      out is the line of the first of the questions qs that gets a no
---   Told qs P out      where each of the questions qs gets a yes, P out; otherwise out is the line of the first that gets a no
---   Shaped .. out       over a field and an order: out has the basis that Convert writes
---   Shapes .. out       the same, the questions of the basis and the request asked first
---   ShapesAny bs out    the same over the field and the order that the first line of bs names, whatever proves the laws of the field
---   Answer bs out       out is what the program prints for the input bs
---   OneAnswer           to each input it prints one thing, and to each it prints something
+--   rows d n w              the words w, in n lines of d words
+--   basis_lines n d k w     a line of 0, n, d and k, then n rows of d words
+--   Refuses qs out          out is the line of the first of the questions qs that gets a no
+--   Told qs P out           where each of the questions qs gets a yes, P out; otherwise out is the line of the first that gets a no
+--   Shaped .. out           over a field and an order: out has the basis that Convert writes
+--   Shapes .. out           the same, the questions of the basis and the request asked first
+--   ShapesAny bs out        the same over the field and the order that the first line of bs names, whatever proves the laws of the field
+--   Answer bs out           out is what the program prints for the input bs
+--   OneAnswer               to each input it prints one thing, and to each it prints something
 --   Prints bs end out new   the answer to bs stands at the front of out, which is otherwise as it was, and end is its length
 -- Used by: the contract of answer_to.
 use Rattle.std.specs.Prelude.{◌≡◌, ℕ, zero, suc, ◌⊎◌, List, [], ◌∷◌, ◌++◌, take, drop, length, Some, Option}
