@@ -4,7 +4,7 @@ pub mod Lengths
 pub mod Tables
 pub mod Reading
 pub mod Adding
-pub mod Backwards
+pub mod Products
 pub mod Columns
 pub mod Turn
 pub mod Places

@@ -1,6 +1,0 @@
-use Rattle.std.proofs.Common.{◌≡◌, length, get_or}
-use Rattle.linear.specs.Words.{sum_words}
-use Rattle.linear.proofs.dot.dot.Given as goal
-
-abbrev pub invariant-loop-x : goal.invariant-loop-x
-invariant-loop-x g l = let m = g.F.Field.meaning l.field in l.sum ≡ sum_words m (length l.yielded) (λ i. m.mul (get_or l.a i 0) (get_or l.b i 0))
