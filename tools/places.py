@@ -63,11 +63,11 @@ def flags():
     yield from found(r'^#\[derive[^\n]*\n(?:pub )?enum \w+ \{[^}]*\b(?:Refused|Broken|Stuck)\b[^}]*\}')
     yield from found(r'^    closed: bool,')
     yield from found(r'_code: u32\b|\bcode == 0|order: u32\b')
-    yield from found(r'^\s*let (?:Some|Ok|Err)\([^=]*\) =[^;{]*else \{\s*return (?:Err|None|false)[^;]*;')
+    yield from found(r'^\s*let (?:Some|Ok|Err)\([^=]*\) =[^;{]*else \{(?:\s*//[^\n]*)*\s*return (?:Err|None|false)[^;]*;')
     yield from found(r'^\s*(?:None|Some\([^)]*\)|Err\([^_)]*\)) => (?:return )?Err\([^,]*\)(?:,|;)')
     yield from found(r'\bif [^{};]*\{\s*Some\([^{};]*\)\s*\} else \{\s*None\s*\}')
     yield from found(r'^\s*\[\] => [^,]*,')
-    yield from found(r'\bif let (?:Some|Ok|Err)\([^=]*\) = [^{]*\{\s*return (?:Err|None|false)[^;]*;')
+    yield from found(r'\bif let (?:Some|Ok|Err)\([^=]*\) = [^{]*\{(?:\s*//[^\n]*)*\s*return (?:Err|None|false)[^;]*;')
 
 
 def twins():
@@ -139,9 +139,11 @@ def repeated():
             for part in re.split(r' × ', text):
                 facts[kind, re.sub(r'\b(?:self|entry)\.|\.entry\b', '', part.strip('() ').replace('.old', '.now').replace('.new', '.now'))].add(where)
         lists[where] = frozenset(re.findall(r'(\w+): (?:&|usize|u32|Place)', parameters))
+    # A definition is said once, and what a call leaves as it was is its own.
     for (kind, fact), places in sorted(facts.items()):
         named = kind == 'ensures' and re.match(r'[A-Z]\w* [^→×≡]*$', fact)
-        if len(places) >= 3 and (kind == 'requires' or len(fact) > 25) and not named:
+        own = re.search(r'([\w.]+)\.now ≡ \1\.now', fact) or re.search(r'(\w+)\.now\.(\w+) ≡ \1\.now\.\2', fact)
+        if len(places) >= 3 and (kind == 'requires' or len(fact) > 25) and not named and not own:
             yield f'{len(places)} contracts {"require" if kind == "requires" else "ensure"}: {fact}'
     groups = {a & b for a in lists.values() for b in lists.values()} | set(lists.values())
     for group in sorted(groups, key=sorted):

@@ -3,7 +3,7 @@
 use Rattle.std.proofs.Common.{◌≡◌, ℕ, suc, ◌+◌, ◌<◌, ◌≤◌, true, false, cond, List, [], ◌∷◌, ◌++◌, length, take, drop, set, Some, None, sym, ap, ◌∙◌, add-zero, arith, length-append, take-append-drop}
 use borrow.Rule.Slice.PartMut.{put_mid}
 use Rattle.std.specs.Bool.{then_some}
-use Rattle.std.proofs.lemmas.List.{append_assoc, drop-drop, drop_at, set_split, take_at, length-take-le}
+use Rattle.std.proofs.lemmas.List.{append_assoc, drop-append-le, drop-drop, drop_at, set_split, take_at, length-take-le}
 use Rattle.std.proofs.lemmas.Bool.{le-leb, lt-leb}
 use Rattle.column.specs.Place.{room, put, placed, after}
 
@@ -57,3 +57,12 @@ module _ (out ys : List ℕ) (at n : ℕ) (l : length ys ≡ n) where
   without_room h =
       let t : room out at ys ≡ false = lt-leb (at + length ys) (length out) (omega arith) in
       (ap (λ b. then_some b (at + length ys)) (sym t), ap (λ b. cond b (put out at ys) out) (sym t))
+
+-- what is written at the front of a front stands at the front of the whole
+pub at_front : (out front new ys : List ℕ) (k : ℕ) → front ≡ take k out → k ≤ length out → new ≡ put front 0 ys → length ys ≤ k → new ++ drop k out ≡ put out 0 ys
+unfolding put
+at_front out front new ys k e room is short =
+    let long : length (take k out) ≡ k = length-take-le k out room in
+    ap (λ xs. xs ++ drop k out) (is ∙ ap (λ xs. ys ++ drop (0 + length ys) xs) e)
+    ∙ append_assoc ys (drop (0 + length ys) (take k out)) (drop k out)
+    ∙ ap (λ xs. ys ++ xs) (sym (drop-append-le (0 + length ys) (take k out) (drop k out) (omega arith)) ∙ ap (drop (0 + length ys)) (take-append-drop k out))

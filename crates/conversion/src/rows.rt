@@ -47,6 +47,7 @@ impl<'a, F: Field> Conversion<'a, F> {
         ensures fits { OnlyUnready self.now.matrices.tables.now self.now.matrices.n result }
         ensures measured { let m = F.Field.meaning self.now.matrices.field.now in let t = self.now.matrices.tables.now in IfOk result (λ sides. (laws : FieldLaws m) (i : ℕ) → i < self.now.matrices.n → i ≢ self.now.k → Stands m (stair_count t) (slice_index_or sides i []) (measure m laws t self.now.k self.now.r.now (map_of m laws t i (unit m laws)))) }
     {
+        // Four, however many the variables are: memory is fixed, and those past the last are never read.
         let mut sides = [[0; 48]; 4];
         // By number: a variable has no other name.
         for i in 0..self.matrices.n {

@@ -1,8 +1,8 @@
 -- From the answers to its questions to the outcome of a text.
-use Rattle.std.proofs.Common.{◌≡◌, ℕ, ◌+◌, ◌<◌, ◌≤◌, Bool, true, false, cond, eqb, leb, List, [], ◌∷◌, ◌++◌, length, get_or, take, drop, IfSome, IfOk, Some, None, Ok, Err, Option, Result, sym, refl, ap, ◌∙◌, subst, ap₂, zero-add, arith, drop-cons, take-append-drop}
+use Rattle.std.proofs.Common.{◌≡◌, ℕ, ◌+◌, ◌<◌, ◌≤◌, Bool, true, false, cond, eqb, leb, List, [], ◌∷◌, length, get_or, drop, IfSome, IfOk, Some, None, Ok, Err, Option, Result, sym, refl, ap, ◌∙◌, subst, ap₂, zero-add, arith, drop-cons}
 use Rattle.std.specs.Bool.{then_some}
 use Rattle.std.specs.Result as results
-use Rattle.std.proofs.lemmas.List.{append_assoc, drop_all, drop-append-le, length-take-le}
+use Rattle.std.proofs.lemmas.List.{drop_all}
 use Rattle.std.proofs.lemmas.Bool.{eq-eqb, ne_eqb, le-leb, lt-leb}
 use Rattle.std.proofs.lemmas.Result.{IfOk-at_ok}
 use Rattle.column.specs.declared.line.LineFault.{LineFault}
@@ -203,12 +203,3 @@ module _ (text old : List ℕ) where
         en ∙ ap (λ (t : Bool). cond t (put mid 0 (line ws)) mid) yes ∙ ap₂ (λ (o b : List ℕ). put o 0 b) w.1 (sym e),
         subst (λ (x : Option ℕ). IfSome x (λ n. n ≤ length old)) (sym size) fits,
       )
-
--- what is written at the front of a front stands at the front of the whole
-pub at_front : (out front new ys : List ℕ) (k : ℕ) → front ≡ take k out → k ≤ length out → new ≡ put front 0 ys → length ys ≤ k → new ++ drop k out ≡ put out 0 ys
-unfolding put
-at_front out front new ys k e room is short =
-    let long : length (take k out) ≡ k = length-take-le k out room in
-    ap (λ xs. xs ++ drop k out) (is ∙ ap (λ xs. ys ++ drop (0 + length ys) xs) e)
-    ∙ append_assoc ys (drop (0 + length ys) (take k out)) (drop k out)
-    ∙ ap (λ xs. ys ++ xs) (sym (drop-append-le (0 + length ys) (take k out) (drop k out) (omega arith)) ∙ ap (drop (0 + length ys)) (take-append-drop k out))

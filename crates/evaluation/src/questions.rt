@@ -8,6 +8,7 @@ ghost use Rattle.evaluation.specs.Padded.{terms_left};
 use crate::terms::Terms;
 use field::Field;
 
+// Of a word of a text; `polynomials` has the same limit for the byte of a record.
 const LARGEST_EXPONENT: u32 = 48;
 
 // Are the exponents of a term at most 48?

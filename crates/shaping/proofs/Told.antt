@@ -72,12 +72,3 @@ fault_printed front new f report end room is long e n =
     let p = with_room front (line report) 0 45 size (omega (arith, room)) in
     let whole : 0 + 45 ≡ length (refusal (number_of f) (line_of f) (place_of f)) = sym size ∙ ap (λ (ws : List ℕ). length (line ws)) is in
     (e ∙ sym p.0 ∙ ap Some whole, n ∙ sym p.1 ∙ ap (λ (ws : List ℕ). put front 0 (line ws)) is, omega (arith, whole))
-
--- what is written at the front of a front stands at the front of the whole
-pub at_front : (out front new ys : List ℕ) (k : ℕ) → front ≡ take k out → k ≤ length out → new ≡ put front 0 ys → length ys ≤ k → new ++ drop k out ≡ put out 0 ys
-unfolding put
-at_front out front new ys k e room is short =
-    let long : length (take k out) ≡ k = length-take-le k out room in
-    ap (λ xs. xs ++ drop k out) (is ∙ ap (λ xs. ys ++ drop (0 + length ys) xs) e)
-    ∙ append_assoc ys (drop (0 + length ys) (take k out)) (drop k out)
-    ∙ ap (λ xs. ys ++ xs) (sym (drop-append-le (0 + length ys) (take k out) (drop k out) (omega arith)) ∙ ap (drop (0 + length ys)) (take-append-drop k out))

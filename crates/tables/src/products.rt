@@ -44,6 +44,7 @@ pub(crate) fn find_places(
     ensures wide { IfOk result Wide }
     ensures found { AllPlaceable n stairs.now edges.now → PlacesFound n stairs.now edges.now result }
 {
+    // Four, however many the variables are: memory is fixed, and those past the last are never read.
     let mut all = [Products::new(); 4];
     // By number: a variable has no other name.
     for k in 0..n {

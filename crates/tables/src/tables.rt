@@ -16,6 +16,7 @@ pub mod matrix;
 #[derive(Drop)]
 pub struct Tables {
     stairs: ArrayVec<Monomial, 48>,
+    // Of four variables, as `find_places` makes them.
     products: [Products; 4],
     // Flat: next_column reads and writes one slice, and nothing is known of what as_flattened_mut leaves.
     columns: [u32; 9216],

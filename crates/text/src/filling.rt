@@ -49,6 +49,7 @@ fn fill_polynomial<'a, F: Field, O: Order>(
     let line = reader.place.line;
     let (count, first) = read_count(reader)?;
     about_line(job.ask_room(count), line)?;
+    // The front of one array that serves every polynomial, and no list: memory is fixed, and a thousand terms are cleared once.
     let layout = Layout { n: job.variables() };
     let end = layout.read_terms(first, &mut terms[..count])?;
     about_line(job.enter(&terms[..count]), line)?;

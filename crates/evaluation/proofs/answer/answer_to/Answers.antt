@@ -3,7 +3,8 @@ use Rattle.std.proofs.lemmas.List.{length-take-le}
 use Rattle.column.specs.Line.{line}
 use Rattle.column.proofs.Lines.{line_length_is}
 use Rattle.evaluation.specs.Answer.{answer}
-use Rattle.evaluation.proofs.Deciding.{values_printed, fault_printed, at_front}
+use Rattle.column.proofs.Places.{at_front}
+use Rattle.evaluation.proofs.Deciding.{values_printed, fault_printed}
 use Rattle.evaluation.proofs.answer.answer_to.Goals as goal
 
 pub returns-in-Ok : goal.returns-in-Ok

@@ -2,7 +2,8 @@ use Rattle.std.proofs.Common.{◌≤◌, length, Some, ap, arith}
 use Rattle.std.proofs.lemmas.List.{length-take-le}
 use Rattle.shaping.specs.Faults.{number_of, line_of, place_of, refusal}
 use Rattle.shaping.specs.Answer.{basis_lines}
-use Rattle.shaping.proofs.Told.{basis_told, fault_told, fault_small, fault_printed, at_front}
+use Rattle.column.proofs.Places.{at_front}
+use Rattle.shaping.proofs.Told.{basis_told, fault_told, fault_small, fault_printed}
 use Rattle.shaping.proofs.answer.answer_to.Goals as goal
 
 pub report-requires : goal.report-requires
