@@ -6,6 +6,8 @@ mod columns;
 #[cfg(test)]
 mod fields;
 #[cfg(test)]
+mod jobs;
+#[cfg(test)]
 mod orders;
 #[cfg(test)]
 mod probes;
