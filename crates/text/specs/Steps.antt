@@ -1,4 +1,4 @@
--- What reading from a line on keeps. Inner: the private functions of the crate cite it, and no public contract.
+-- What reading from a line on keeps. LineRead is what read_line promises; the rest is inner, for the functions that read many lines.
 --   LinePassed           the questions of the line of c columns that the reader p is at got a yes, and the reader q is at the next line of the same text
 --   LinesPassed          the same of k lines
 --   LineRead             the answer of reading a line into words: the reader at the next, or the question that got a no
