@@ -10,13 +10,13 @@ module _ {A : Type 0} (cmp : A → A → Ordering) (m : A) (xs : List A) (i : �
   unfolding inserted_by
   turn d h r e = inv ∙ ap (λ (y : List A). take i xs ++ y) (at_drop_more (inserted_by cmp m) xs i d h ∙ ap (put cmp m (get_or xs i d) (drop (i + 1) xs) (inserted_by cmp m (drop (i + 1) xs))) (sym e))
 
-  put_here : (d : A) → i < length xs → Less ≡ cmp m (get_or xs i d) → inserted_by cmp m xs ≡ insert xs i m
+  pub put_here : (d : A) → i < length xs → Less ≡ cmp m (get_or xs i d) → inserted_by cmp m xs ≡ insert xs i m
   put_here d h e = turn d h Less e ∙ ap (λ (y : List A). take i xs ++ m ∷ y) (sym (drop_more xs i d h))
 
-  put_there : (d : A) → i < length xs → Equal ≡ cmp m (get_or xs i d) → inserted_by cmp m xs ≡ xs
+  pub put_there : (d : A) → i < length xs → Equal ≡ cmp m (get_or xs i d) → inserted_by cmp m xs ≡ xs
   put_there d h e = turn d h Equal e ∙ ap (λ (y : List A). take i xs ++ y) (sym (drop_more xs i d h)) ∙ take-append-drop i xs
 
-  put_last : i ≡ length xs → inserted_by cmp m xs ≡ insert xs (length xs) m
+  pub put_last : i ≡ length xs → inserted_by cmp m xs ≡ insert xs (length xs) m
   unfolding inserted_by
   put_last e = subst (λ (j : ℕ). inserted_by cmp m xs ≡ insert xs j m) e (inv ∙ ap (λ (y : List A). take i xs ++ y) (at_drop_all (inserted_by cmp m) xs i (omega arith) ∙ ap (λ (y : List A). m ∷ y) (sym (drop_all i xs (omega arith)))))
 
