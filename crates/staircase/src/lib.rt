@@ -10,8 +10,8 @@ mod sorting;
 pub mod stairs;
 mod walk;
 
-pub use edges::border;
+pub use edges::{border, border_into};
 pub use products::places;
 pub use rules::{Term, next_column, opposite_column};
 pub use search::{any_divides, place_of};
-pub use stairs::{TooMany, staircase};
+pub use stairs::{StairsFault, TooMany, staircase, staircase_into};
