@@ -62,4 +62,5 @@ abbrev pub Edges : Comparison → List Monomial → ℕ → ℕ → List Monomia
 Edges cmp stairs K I e = (l : List Monomial) × (e ≡ sorted_by cmp l) × Edged stairs K I l
 
 abbrev pub EdgesPast : Comparison → List Monomial → ℕ → ℕ → Type 0
-EdgesPast cmp stairs K room = (i : ℕ) × (e : List Monomial) × (i ≤ length stairs) × (length e ≡ room + 1) × Edges cmp stairs K i e
+EdgesPast cmp stairs K room = (i : ℕ) × (e : List Monomial)
+    × (i ≤ length stairs) × (length e ≡ room + 1) × Edges cmp stairs K i e

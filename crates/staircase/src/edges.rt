@@ -1,5 +1,5 @@
-// The border of a staircase, in increasing order: at the front of a lent list, or as a list of fixed
-// capacity.
+// The border of a staircase, in increasing order: at the front of a lent list, or as a list of a
+// fixed capacity.
 ghost use Rattle.std.specs.Prelude.{◌≡◌, ◌+◌, ◌≤◌, length, take, Some, IfSome, IfNone, MatchOption};
 ghost use Rattle.std.specs.List.{ContainsAt as Has};
 ghost use Rattle.order.specs.declared.monomial.Monomial.{Monomial as Record};

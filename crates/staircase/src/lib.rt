@@ -1,5 +1,5 @@
-// The staircase of leading monomials, its border and the places of the products, under any order, over
-// lent lists of monomials or lists of a fixed capacity. Nothing here allocates or holds state.
+// The staircase of leading monomials, its border and the places of the products, under any order,
+// over lent lists of monomials or lists of a fixed capacity. Nothing here allocates or holds state.
 #![tactic(auto)]
 
 pub mod edges;

@@ -22,8 +22,8 @@ fn place<O: Order>(order: &O, list: &[Monomial], m: Monomial) -> Result<usize, u
     Err(list.len())
 }
 
-// Puts `m` into the increasing first `count` of `list`, and says how many there are then: none where
-// there is no room for it.
+// Puts `m` into the increasing first `count` of `list`, and says how many there are then: none
+// where there is no room for it.
 pub(crate) fn insert<O: Order>(
     order: &O,
     list: &mut [Monomial],

@@ -1,5 +1,5 @@
-// The staircase of a list of leading monomials, in increasing order: at the front of a lent list, the
-// other lent list being room to work in, or as a list of fixed capacity.
+// The staircase of a list of leading monomials, in increasing order: at the front of a lent list,
+// where the other lent list is room to work in, or as a list of a fixed capacity.
 ghost use Rattle.std.specs.Prelude.{◌≡◌, ◌<◌, ◌↔◌, length, take, Err};
 ghost use Rattle.staircase.specs.declared.stairs.StairsFault.TheVariants.{NoRoom};
 ghost use Rattle.staircase.specs.Stairs.{Leading, StaircaseAnswer, StaircaseWritten, RestStays};
@@ -9,8 +9,8 @@ use crate::walk::collect;
 use arrayvec::{ArrayVec, CapacityError};
 use order::{Monomial, Order};
 
-// Why nothing is written: less room to work in than for the staircase, or more monomials than room
-// for them.
+// Why there is no staircase: less room to work in than for the staircase, or more monomials than
+// room for them.
 #[derive(Clone, Copy, PartialEq, Eq, Debug)]
 pub enum StairsFault {
     NoRoom,
@@ -27,8 +27,8 @@ impl From<CapacityError<Monomial>> for TooMany {
     }
 }
 
-// The monomials of the first `n` variables that no lead divides, in increasing order at the front of
-// `stairs`, and how many there are.
+// The monomials of the first `n` variables that no lead divides, in increasing order at the front
+// of `stairs`, and how many there are.
 pub fn staircase_into<O: Order>(
     order: &O,
     n: usize,
