@@ -1,5 +1,6 @@
 -- What the tests of the elimination say of its numbers.
 --   has_room      the places, coordinates and rows
+--   below_all     the test of the pivots, taken one after the other, says that they are places; back by all_below
 --   all_tested    one test of all pivots, where there is room
 --   of_solvable   the room and the pivots, and back by to_solvable
 use Rattle.std.proofs.Common.{◌≡◌, ℕ, zero, suc, ◌+◌, ◌-◌, ◌<◌, ◌≤◌, true, ◌&&◌, ltb, List, length, get_or, take, sym, refl, ap, ◌∙◌, add-one, arith, ltb-true, lt-ltb, leb-true}
@@ -21,7 +22,7 @@ has_room d n rows h =
     let l = leb-true n (pitch - d) b.1 in
     record { coordinates = omega arith; enough = leb-true n rows a.1 }
 
-below_all : (d n : ℕ) (pivots : List ℕ) → below d n pivots ≡ true → Below d n pivots
+pub below_all : (d n : ℕ) (pivots : List ℕ) → below d n pivots ≡ true → Below d n pivots
 below_all d zero pivots h i l = absurd (omega arith)
 below_all d (suc n) pivots h i l = at (ℕ_discrete i n) (below_all d n pivots (and_parts _ _ h).0 i)
   where
@@ -29,7 +30,7 @@ below_all d (suc n) pivots h i l = at (ℕ_discrete i n) (below_all d n pivots (
     at (yes e) rest = rw e (ltb-true _ _ (and_parts _ _ h).1)
     at (no e) rest = rest (omega arith)
 
-all_below : (d n : ℕ) (pivots : List ℕ) → Below d n pivots → below d n pivots ≡ true
+pub all_below : (d n : ℕ) (pivots : List ℕ) → Below d n pivots → below d n pivots ≡ true
 all_below d zero pivots h = refl
 all_below d (suc n) pivots h = and_from _ _ (all_below d n pivots (λ i l. h i (omega arith))) (lt-ltb _ _ (h n (omega arith)))
 

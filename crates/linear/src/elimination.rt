@@ -97,6 +97,27 @@ impl<const ROWS: usize> Echelon<ROWS> {
         }
     }
 
+    // The rows, as many as the echelon has room for. Those of the vectors taken come first.
+    pub fn rows(&self) -> &[[u32; PITCH]]
+        ensures { result.now ≡ self.now.rows }
+    {
+        self.rows.as_slice()
+    }
+
+    // The place at which each row has its pivot.
+    pub fn pivots(&self) -> &[usize]
+        ensures { result.now ≡ self.now.pivots }
+    {
+        self.pivots.as_slice()
+    }
+
+    // The row that was worked in: where a vector depends, its relation stands after its places.
+    pub fn work(&self) -> &[u32; PITCH]
+        ensures { result.now ≡ self.now.work }
+    {
+        &self.work
+    }
+
     // What the first `count` rows leave of a vector, each taking off what stands at its pivot, and after
     // it, up to `width` words, the coordinates of what they added to it.
     // `count` is of rows of its own, and `width` of words of the answer: no slice lends either.
