@@ -11,6 +11,7 @@ ghost use Rattle.job.specs.Parts.{SameFieldAndOrder};
 ghost use Rattle.job.specs.State.{state, Kept};
 ghost use Rattle.job.specs.Promise.{answer_of, Promised};
 
+use crate::table::asking::take_out;
 use crate::{Job, JobFault, Term};
 use field::Field;
 use order::{Monomial, Order};
@@ -39,7 +40,7 @@ impl<F: Field, O: Order> Job<F, O> {
         ensures same_field_and_order { SameFieldAndOrder self.old self.new }
     {
         self.table.polynomials.clear();
-        self.table.tables = None;
+        take_out(&mut self.table.tables);
     }
 
     // Whether there is room for one more polynomial of so many terms.
