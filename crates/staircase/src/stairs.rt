@@ -70,8 +70,6 @@ pub fn staircase<O: Order, const CAP: usize>(
 {
     let mut found = [Monomial::ONE; CAP];
     let mut stairs = [Monomial::ONE; CAP];
-    match staircase_into(order, n, leads, &mut found, &mut stairs) {
-        Ok(count) => Ok(front(stairs, count)),
-        Err(_) => Err(TooMany),
-    }
+    let count = staircase_into(order, n, leads, &mut found, &mut stairs).map_err(|_fault| TooMany)?;
+    Ok(front(stairs, count))
 }
