@@ -50,7 +50,7 @@ module _ (part : List ℕ) (place number rest : ℕ) (n : length part ≡ 11) (w
         omega arith,
       )
 
-  spelled_all : rest < 10 → drop (place - 1) (set part (place - 1) (48 + rest)) ≡ decimal number
+  pub spelled_all : rest < 10 → drop (place - 1) (set part (place - 1) (48 + rest)) ≡ decimal number
   spelled_all one =
       written_before (48 + rest)
       ∙ ap (λ ds. ds ++ drop place part) (sym (decimal_digit rest one))

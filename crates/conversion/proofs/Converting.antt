@@ -164,7 +164,7 @@ module _ (m : FieldMeaning) (laws : FieldLaws m) (cmp : Comparison) (O : OrderLa
       first-yes : AllYes (vector_words_asks m d n k r room)
       first-yes = subst (λ (y : ℕ). AllYes (vector_words_asks m y n k r room)) H.size Y
 
-      in_range : k - 1 < n
+      pub in_range : k - 1 < n
       in_range = omega (arith, Y.0.0, Y.0.1)
 
       pub refused-shape : (f : JobFault) → HasNoShape m laws (stair_count t) (power m laws t (k - 1) (unit m laws)) f → Refused (vector_asks m laws cmp n ps k r room) (number_of f) 0 (place_of f)

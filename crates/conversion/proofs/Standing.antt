@@ -1,5 +1,5 @@
 -- Words that stand for a vector: what they read as, and what a step and a dot product make of them.
-use Rattle.std.proofs.Common.{◌≡◌, ℕ, ◌+◌, ◌<◌, ◌≤◌, min, T, List, length, get_or, take, sym, ap, ◌∙◌, subst, arith, get_or-take}
+use Rattle.std.proofs.Common.{◌≡◌, ℕ, ◌+◌, ◌<◌, ◌≤◌, min, T, List, length, get_or, take, drop, sym, ap, ◌∙◌, subst, arith, get_or-drop, get_or-take}
 use Rattle.std.proofs.lemmas.List.{length-take-le}
 use Rattle.field.specs.Meaning.{FieldMeaning, FieldLaws}
 use Rattle.algebra.specs.Vector.{dot}
@@ -10,7 +10,7 @@ use Rattle.linear.specs.Words.{DotOf}
 use Rattle.linear.proofs.WordLists.{read_word, read_is}
 use Rattle.tables.specs.declared.tables.Tables.{Tables}
 use Rattle.tables.specs.Holds.{stair_count, entry_of, Stepped}
-use Rattle.conversion.specs.Powers.{Stands, map_of, power, measure}
+use Rattle.conversion.specs.Powers.{Stands, StandsAt, map_of, power, measure}
 
 module _ (m : FieldMeaning) (laws : FieldLaws m) where
   -- a word of an element is one
@@ -43,6 +43,10 @@ module _ (m : FieldMeaning) (laws : FieldLaws m) where
   -- and so do their first n words
   pub front_reads : (d n : ℕ) (xs : List ℕ) (f : ℕ → Elem m) → d ≤ n → n ≤ length xs → Stands m d xs f → (j : ℕ) → j < d → read m laws (take n xs) j ≡ f j
   front_reads d n xs f l h s j p = read_is m laws (take n xs) j (f j) (omega (arith, length-take-le n xs h)) (get_or-take n xs j 0 (omega arith) ∙ s j p)
+
+  -- a part that is lent
+  pub part_stands : (d a w : ℕ) (xs : List ℕ) (f : ℕ → Elem m) → d ≤ w → StandsAt m d a xs f → Stands m d (take w (drop a xs)) f
+  part_stands d a w xs f l s j h = get_or-take w (drop a xs) j 0 (omega arith) ∙ get_or-drop a xs j 0 ∙ s j h
 
   -- the words measured from a power on are those further on
   pub measure_more : (t : Tables) (k : ℕ) (r : List ℕ) (f : ℕ → Elem m) (l j : ℕ) → measure m laws t k r (power m laws t k f l) j ≡ measure m laws t k r f (l + j)

@@ -54,13 +54,18 @@ fn say_words(
     println!(rt; "")
 }
 
+// Enters a polynomial of at most eight terms.
 fn enter<F: Field, O: Order>(
     rt: &HostRuntime,
     job: &mut Job<F, O>,
     polynomial: &[Plain],
 ) -> io::Result<()> {
-    let terms: Vec<Term> = polynomial.iter().map(term).collect(rt.alloc())?;
-    say(rt, "enter", job.enter(terms.as_slice()))
+    let mut terms = [Term::default(); 8];
+    let count = polynomial.len().min(terms.len());
+    for (slot, plain) in terms.iter_mut().zip(polynomial) {
+        *slot = term(plain);
+    }
+    say(rt, "enter", job.enter(&terms[..count]))
 }
 
 fn close<F: Field, O: Order>(rt: &HostRuntime, job: &mut Job<F, O>) -> io::Result<()> {

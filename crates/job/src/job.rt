@@ -1,6 +1,6 @@
 // What a job is: one field and one order, of any kind, and the table of what was entered and made. Only
 // the child modules write the fields.
-use crate::table::Table;
+pub use crate::table::Table;
 
 pub mod answering;
 pub mod closing;

@@ -18,6 +18,11 @@ module _ (m : FieldMeaning) (w : ℕ) where
   added_all (x ∷ xs) (y ∷ ys) zero l = absurd (omega arith)
   added_all (x ∷ xs) (y ∷ ys) (suc n) l = ap (λ zs. m.add y (m.mul w x) ∷ zs) (added_all xs ys n (omega arith))
 
+  pub length_added : (xs ys : List ℕ) → length (added m w xs ys) ≡ length ys
+  length_added [] ys = refl
+  length_added (x ∷ xs) [] = refl
+  length_added (x ∷ xs) (y ∷ ys) = ap suc (length_added xs ys)
+
   pub added_at : (xs ys : List ℕ) (k : ℕ) → k < length xs → k < length ys → get_or (added m w xs ys) k 0 ≡ m.add (get_or ys k 0) (m.mul w (get_or xs k 0))
   added_at [] ys k l l' = absurd (omega arith)
   added_at (x ∷ xs) [] k l l' = absurd (omega arith)

@@ -86,7 +86,7 @@ module _ (m : FieldMeaning) (laws : FieldLaws m) (out : FieldTotal m) where
         ap (λ (f : ℕ → ℕ). map f (range_with_len 0 d))
         (fun_ext (λ j. Reading.sum_same m d _ _ (λ i l. ap₂ (λ (p : Place) (w : ℕ). m.mul (entry m columns stride p j) w) (get_or-take d places i (Stair 0) l) (get_or-take d v i 0 l))))
 
-    product_of_front : (d : ℕ) (v : List ℕ) → d ≤ length places → product_words m (length (take d places)) (take d places) columns stride (take d v) ≡ product_words m d places columns stride v
+    pub product_of_front : (d : ℕ) (v : List ℕ) → d ≤ length places → product_words m (length (take d places)) (take d places) columns stride (take d v) ≡ product_words m d places columns stride v
     product_of_front d v l = ap (λ n. product_words m n (take d places) columns stride (take d v)) (length-take-le d places l) ∙ product_front d v
 
     pub product_elems : (d : ℕ) (v xs : List ℕ) → xs ≡ product_words m d places columns stride v → Elems m xs

@@ -65,6 +65,15 @@ module _ {K : Type 0} (F : Field K) where
   shift_zero zero f l = absurd (omega arith)
   shift_zero (suc m) f l = refl
 
+  pub shift_low : (m : ℕ) (f : ℕ → K) (i : ℕ) → i < m → shift F m f i ≡ zer
+  shift_low zero f i l = absurd (omega arith)
+  shift_low (suc m) f zero l = refl
+  shift_low (suc m) f (suc i) l = shift_low m f i (omega arith)
+
+  pub shift_at : (m : ℕ) (f : ℕ → K) (k : ℕ) → shift F m f (k + m) ≡ f k
+  shift_at zero f k = ap f (plus-zero k)
+  shift_at (suc m) f k = rw add-suc (shift_at m f k)
+
   pub conv_sum : (n : ℕ) (f s : ℕ → K) → conv F f s n ≡ sum F (suc n) (λ i. f i ⊗ s (n - i))
   conv_sum zero f s = sym (Laws.zero_add F _)
   conv_sum (suc n) f s =

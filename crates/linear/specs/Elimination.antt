@@ -9,9 +9,12 @@
 --   roomy d n rows                       an echelon of so many rows has room for n rows of d places and n coordinates
 --   covers d n stride s                  s words have n rows of d places that begin stride words apart
 --   fits d n stride s rows               both
+--   lends d n rows pivots work           so many rows and pivots that are lent, and so many words of a row to work in, have room for n rows of d places and n coordinates
+--   takes d n stride s rows pivots work  they have, and s words have n rows of d places that begin stride words apart
 --   below d n pivots                     the first n pivots are places below d, as a test
 --   Below d n pivots                     so they are
 --   solvable d n rows pivots             there is room, and the pivots are places
+--   solves d n rows pivots work          what is lent has room, and the pivots are places
 --   Reduced m table pivots n x w row     the first w words of the row are what the first n rows of the table leave of the words x
 --   FirstNonzero m n row a               a is the first of n places of the row whose word is not zero, and none where all are zero
 --   Stepped .. a                         what taking one more vector answers
@@ -40,6 +43,12 @@ covers d n stride s = nat_le stride pitch && nat_le (n * stride - stride + d) s
 abbrev pub fits : ℕ → ℕ → ℕ → ℕ → ℕ → Bool
 fits d n stride s rows = roomy d n rows && covers d n stride s
 
+abbrev pub lends : ℕ → ℕ → ℕ → ℕ → ℕ → Bool
+lends d n rows pivots work = nat_le work pitch && nat_le d work && nat_le n (work - d) && nat_le n pivots && nat_le n rows
+
+abbrev pub takes : ℕ → ℕ → ℕ → ℕ → ℕ → ℕ → ℕ → Bool
+takes d n stride s rows pivots work = lends d n rows pivots work && covers d n stride s
+
 abbrev pub below : ℕ → ℕ → List ℕ → Bool
 below d zero pivots = true
 below d (suc n) pivots = below d n pivots && nat_lt (slice_index pivots n) d
@@ -49,6 +58,9 @@ Below d n pivots = (i : ℕ) → i < n → slice_index pivots i < d
 
 abbrev pub solvable : ℕ → ℕ → ℕ → List ℕ → Bool
 solvable d n rows pivots = roomy d n rows && below d n pivots
+
+abbrev pub solves : ℕ → ℕ → ℕ → List ℕ → ℕ → Bool
+solves d n rows pivots work = lends d n rows (length pivots) work && below d n pivots
 
 abbrev pub Wide : ℕ → List (List ℕ) → Type 0
 Wide n table = (i : ℕ) → i < n → length (slice_index_or table i []) ≡ pitch

@@ -1,10 +1,11 @@
 // Elimination over the words of any field: which vector of a family is the first that depends on
 // those before it, and the coefficients of a vector over independent ones.
-// Works in memory of its own, and touches nothing else but the output that is lent for a solution.
+// An echelon works in memory of its own, `eliminate` and `solve` in a table, pivots and a row that the
+// caller lends. Nothing else is touched but the output that is lent for a solution.
 ghost use Rattle.std.specs.Prelude.{◌≡◌, ℕ, ◌+◌, ◌*◌, ◌<◌, ◌≤◌, true, false, ◌≢◌, length, replicate, Err, OnOk, OnErr, IsErrOf, slice_index, slice_index_or};
 ghost use Rattle.field.specs.Meaning.{FieldLaws};
 ghost use Rattle.algebra.specs.Elements.{Elem, Elems};
-ghost use Rattle.linear.specs.Elimination.{pitch, roomy, fits, Below, solvable, rows, Wide, Table, Growing, Reduced, FirstNonzero, Stepped, Eliminated, Solved};
+ghost use Rattle.linear.specs.Elimination.{pitch, roomy, fits, lends, takes, Below, solvable, solves, rows, Wide, Table, Growing, Reduced, FirstNonzero, Stepped, Eliminated, Solved};
 
 mod rows;
 
@@ -48,23 +49,155 @@ pub struct Echelon<const ROWS: usize> {
     ghost wide: { Wide ROWS rows },
 }
 
-// Whether so many rows have room for as many vectors of so many places, with as many coordinates.
-fn has_room(places: usize, count: usize, rows: usize) -> bool
-    ensures { result ≡ roomy places count rows }
+// Whether so many rows and pivots, and so many words of a row to work in, have room for as many vectors
+// of so many places, with as many coordinates.
+fn has_room(places: usize, count: usize, rows: usize, pivots: usize, work: usize) -> bool
+    ensures { result ≡ lends places count rows pivots work }
 {
-    places <= PITCH && count <= PITCH - places && count <= rows
+    work <= PITCH && places <= work && count <= work - places && count <= pivots && count <= rows
+}
+
+// Whether there is room for so many rows beside vectors of so many places, and their pivots are places.
+fn is_solvable(places: usize, count: usize, rows: usize, pivots: &[usize], work: usize) -> bool
+    ensures { result ≡ solves places count rows pivots.now work }
+{
+    has_room(places, count, rows, pivots.len(), work)
+        && pivots[..count].iter().all(|pivot| *pivot < places)
 }
 
 impl Family<'_> {
-    // Whether so many rows have room for the family, and its words hold it all.
-    fn fits(self, rows: usize) -> bool
-        ensures { result ≡ fits self.entry.places self.entry.count self.entry.stride (length self.entry.words.now) rows }
+    // Whether there is room for the family in what is lent, and its words hold it all.
+    fn fits(self, rows: usize, pivots: usize, work: usize) -> bool
+        ensures { result ≡ takes self.entry.places self.entry.count self.entry.stride (length self.entry.words.now) rows pivots work }
     {
-        has_room(self.places, self.count, rows)
+        has_room(self.places, self.count, rows, pivots, work)
             && self.stride <= PITCH
             && (self.count * self.stride).saturating_sub(self.stride) + self.places
                 <= self.words.len()
     }
+}
+
+// What the first `count` rows leave of a vector, each taking off what stands at its pivot, and after
+// it, up to `width` words, the coordinates of what they added to it.
+// `count` is of rows of its own, and `width` of words of the answer: no slice lends either.
+fn remainder<F: Field>(
+    field: &F,
+    table: &[[u32; PITCH]],
+    pivots: &[usize],
+    count: usize,
+    vector: &[u32],
+    width: usize,
+    row: &mut [u32],
+)
+    requires narrow { width ≤ pitch }
+    requires width { width ≤ length row.old }
+    requires room { length vector.now ≤ width }
+    requires rows { count ≤ length table.now }
+    requires pivots { count ≤ length pivots.now }
+    requires wide { Wide count table.now }
+    requires within { Below (length vector.now) count pivots.now }
+    ensures left { Reduced (F.Field.meaning field.now) table.now pivots.now count (λ j. slice_index_or vector.now j (F.Field.meaning field.now).zero) width row.new }
+{
+    let work = &mut row[..width];
+    rows::begin(field, work, vector);
+    for (pivot, above) in pivots[..count].iter().zip(table) {
+        let q = field.neg(work[*pivot]);
+        add_multiple(field, q, above, work);
+    }
+}
+
+// Takes the vector n of a family after those before it.
+fn take<F: Field>(
+    field: &F,
+    family: Family,
+    n: usize,
+    table: &mut [[u32; PITCH]],
+    pivots: &mut [usize],
+    row: &mut [u32],
+) -> Result<(), EliminateFault>
+    requires covered { n * family.stride + family.places ≤ length family.words.now }
+    requires narrow { length row.old ≤ pitch }
+    requires room { family.places + family.count ≤ length row.old }
+    requires coordinate { n < family.count }
+    requires rows { n < length table.old }
+    requires pivots { n < length pivots.old }
+    requires wide { Wide (length table.old) table.old }
+    requires within { Below family.places n pivots.old }
+    ensures wide { Wide (length table.new) table.new }
+    ensures within { OnOk result (Below family.entry.places (n + 1) pivots.new) }
+    ensures stepped { (laws : FieldLaws (F.Field.meaning field.now)) → Elems (F.Field.meaning field.now) family.entry.words.now → Growing (F.Field.meaning field.now) laws family.entry.places family.entry.count n (rows (F.Field.meaning field.now) laws family.entry.stride family.entry.words.now) table.old pivots.old → Stepped (F.Field.meaning field.now) laws family.entry.places family.entry.count n (rows (F.Field.meaning field.now) laws family.entry.stride family.entry.words.now) table.new pivots.new row.new result }
+{
+    let start = n * family.stride;
+    let vector = &family.words[start..start + family.places];
+    let width = family.places + family.count;
+    remainder(field, table, pivots, n, vector, width, row);
+    let left = rows::first_nonzero(field, row, vector.len());
+    let place = left.ok_or(EliminateFault::Depends(n))?;
+    let q = field.inverse(row[place]).ok_or(EliminateFault::NoRoom)?;
+    row[family.places + n] = field.one();
+    rows::keep(field, &mut table[n], &row[..width], q);
+    pivots[n] = place;
+    Ok(())
+}
+
+// Takes the vectors of a family one after the other, until one depends on those before it. The table
+// and the pivots are then as `solve` wants them, and the row has the relation of the one that depends.
+pub fn eliminate<F: Field>(
+    field: &F,
+    family: Family,
+    table: &mut [[u32; PITCH]],
+    pivots: &mut [usize],
+    row: &mut [u32],
+) -> Result<(), EliminateFault>
+    ensures wide { Wide (length table.new) table.new }
+    ensures refused { takes family.entry.places family.entry.count family.entry.stride (length family.entry.words.now) (length table.old) (length pivots.old) (length row.old) ≡ false → IsErrOf result EliminateFault.NoRoom × (table.new ≡ table.old) × (pivots.new ≡ pivots.old) × (row.new ≡ row.old) }
+    ensures eliminated { takes family.entry.places family.entry.count family.entry.stride (length family.entry.words.now) (length table.old) (length pivots.old) (length row.old) ≡ true → (laws : FieldLaws (F.Field.meaning field.now)) → Elems (F.Field.meaning field.now) family.entry.words.now → Eliminated (F.Field.meaning field.now) laws family.entry.places family.entry.count (rows (F.Field.meaning field.now) laws family.entry.stride family.entry.words.now) table.new pivots.new row.new result }
+{
+    rows::tell_widths(table);
+    if !family.fits(table.len(), pivots.len(), row.len()) {
+        return Err(EliminateFault::NoRoom);
+    }
+    // By number, which `take` is told; `windows` refuses no places and `step_by` no stride, and both may be 0.
+    for n in 0..family.count {
+        take(field, family, n, table, pivots, row)?;
+    }
+    Ok(())
+}
+
+// Writes into `out` the coefficients by which the vectors that an elimination took combine to the
+// vector given, one for each word of `out`.
+pub fn solve<F: Field>(
+    field: &F,
+    table: &[[u32; PITCH]],
+    pivots: &[usize],
+    vector: &[u32],
+    row: &mut [u32],
+    out: &mut [u32],
+) -> Result<(), SolveFault>
+    ensures refused { solves (length vector.now) (length out.old) (length table.now) pivots.now (length row.old) ≡ false → IsErrOf result SolveFault.NoRoom × (row.new ≡ row.old) }
+    ensures answered { solves (length vector.now) (length out.old) (length table.now) pivots.now (length row.old) ≡ true → result ≢ Err SolveFault.NoRoom }
+    ensures unwritten { OnErr result (out.new ≡ out.old) }
+    ensures solved { lends (length vector.now) (length out.old) (length table.now) (length pivots.now) (length row.old) ≡ true → (laws : FieldLaws (F.Field.meaning field.now)) (v : ℕ → ℕ → Elem (F.Field.meaning field.now)) → Elems (F.Field.meaning field.now) vector.now → Table (F.Field.meaning field.now) laws (length vector.now) (length out.old) v table.now pivots.now → Solved (F.Field.meaning field.now) laws (length vector.now) (length out.old) v vector.now out.new result }
+{
+    rows::tell_widths(table);
+    let count = out.len();
+    if !is_solvable(vector.len(), count, table.len(), pivots, row.len()) {
+        return Err(SolveFault::NoRoom);
+    }
+    remainder(
+        field,
+        table,
+        pivots,
+        count,
+        vector,
+        vector.len() + count,
+        row,
+    );
+    if rows::first_nonzero(field, row, vector.len()).is_some() {
+        return Err(SolveFault::Outside);
+    }
+    rows::opposites(field, row, vector.len(), out);
+    Ok(())
 }
 
 impl<const ROWS: usize> Echelon<ROWS> {
@@ -86,10 +219,7 @@ impl<const ROWS: usize> Echelon<ROWS> {
         ensures pivots { result.pivots ≡ pivots.entry }
         ensures work { result.work ≡ replicate pitch 0 }
     {
-        // A proof is told how long an array is that a function is given, and not one in an array.
-        for row in &rows {
-            rows::tell_width(row);
-        }
+        rows::tell_widths(&rows);
         Echelon {
             rows,
             pivots,
@@ -97,55 +227,25 @@ impl<const ROWS: usize> Echelon<ROWS> {
         }
     }
 
-    // What the first `count` rows leave of a vector, each taking off what stands at its pivot, and after
-    // it, up to `width` words, the coordinates of what they added to it.
-    // `count` is of rows of its own, and `width` of words of the answer: no slice lends either.
-    fn remainder<F: Field>(
-        &self,
-        field: &F,
-        count: usize,
-        vector: &[u32],
-        width: usize,
-    ) -> [u32; PITCH]
-        requires width { width ≤ pitch }
-        requires room { length vector.now ≤ width }
-        requires rows { count ≤ ROWS }
-        requires within { Below (length vector.now) count self.now.pivots }
-        ensures work { length result ≡ pitch }
-        ensures left { Reduced (F.Field.meaning field.now) self.now.rows self.now.pivots count (λ j. slice_index_or vector.now j (F.Field.meaning field.now).zero) width result }
+    // The rows, as many as the echelon has room for. Those of the vectors taken come first.
+    pub fn rows(&self) -> &[[u32; PITCH]]
+        ensures { result.now ≡ self.now.rows }
     {
-        let mut work = [0; PITCH];
-        rows::begin(field, &mut work, vector);
-        for (pivot, above) in self.pivots[..count].iter().zip(&self.rows) {
-            let q = field.neg(work[*pivot]);
-            add_multiple(field, q, &above[..width], &mut work);
-        }
-        work
+        self.rows.as_slice()
     }
 
-    // Takes the vector n of a family after those before it.
-    fn take<F: Field>(&mut self, field: &F, family: Family, n: usize) -> Result<(), EliminateFault>
-        requires covered { n * family.stride + family.places ≤ length family.words.now }
-        requires room { family.places + family.count ≤ pitch }
-        requires coordinate { n < family.count }
-        requires rows { n < ROWS }
-        requires within { Below family.places n self.old.pivots }
-        ensures within { OnOk result (Below family.entry.places (n + 1) self.new.pivots) }
-        ensures stepped { (laws : FieldLaws (F.Field.meaning field.now)) → Elems (F.Field.meaning field.now) family.entry.words.now → Growing (F.Field.meaning field.now) laws family.entry.places family.entry.count n (rows (F.Field.meaning field.now) laws family.entry.stride family.entry.words.now) self.old.rows self.old.pivots → Stepped (F.Field.meaning field.now) laws family.entry.places family.entry.count n (rows (F.Field.meaning field.now) laws family.entry.stride family.entry.words.now) self.new.rows self.new.pivots self.new.work result }
+    // The place at which each row has its pivot.
+    pub fn pivots(&self) -> &[usize]
+        ensures { result.now ≡ self.now.pivots }
     {
-        let start = n * family.stride;
-        let vector = &family.words[start..start + family.places];
-        let width = family.places + family.count;
-        self.work = self.remainder(field, n, vector, width);
-        let left = rows::first_nonzero(field, &self.work, vector.len());
-        let place = left.ok_or(EliminateFault::Depends(n))?;
-        let q = field
-            .inverse(self.work[place])
-            .ok_or(EliminateFault::NoRoom)?;
-        self.work[family.places + n] = field.one();
-        self.rows[n] = rows::scaled(field, &self.work[..width], q);
-        self.pivots[n] = place;
-        Ok(())
+        self.pivots.as_slice()
+    }
+
+    // The row that was worked in: where a vector depends, its relation stands after its places.
+    pub fn work(&self) -> &[u32; PITCH]
+        ensures { result.now ≡ self.now.work }
+    {
+        &self.work
     }
 
     // Takes the vectors of a family one after the other, until one depends on those before it. The
@@ -154,22 +254,13 @@ impl<const ROWS: usize> Echelon<ROWS> {
         ensures refused { fits family.entry.places family.entry.count family.entry.stride (length family.entry.words.now) ROWS ≡ false → IsErrOf result EliminateFault.NoRoom × (self.new.rows ≡ self.old.rows) × (self.new.pivots ≡ self.old.pivots) × (self.new.work ≡ self.old.work) }
         ensures eliminated { fits family.entry.places family.entry.count family.entry.stride (length family.entry.words.now) ROWS ≡ true → (laws : FieldLaws (F.Field.meaning field.now)) → Elems (F.Field.meaning field.now) family.entry.words.now → Eliminated (F.Field.meaning field.now) laws family.entry.places family.entry.count (rows (F.Field.meaning field.now) laws family.entry.stride family.entry.words.now) self.new.rows self.new.pivots self.new.work result }
     {
-        if !family.fits(ROWS) {
-            return Err(EliminateFault::NoRoom);
-        }
-        // By number, which `take` is told; `windows` refuses no places and `step_by` no stride, and both may be 0.
-        for n in 0..family.count {
-            self.take(field, family, n)?;
-        }
-        Ok(())
-    }
-
-    // Whether there is room for so many rows beside vectors of so many places, and their pivots are
-    // places.
-    fn is_solvable(&self, places: usize, count: usize) -> bool
-        ensures { result ≡ solvable places count ROWS self.now.pivots }
-    {
-        has_room(places, count, ROWS) && self.pivots[..count].iter().all(|pivot| *pivot < places)
+        eliminate(
+            field,
+            family,
+            &mut self.rows,
+            &mut self.pivots,
+            &mut self.work,
+        )
     }
 
     // Writes into `out` the coefficients by which the vectors that an elimination took combine to the
@@ -185,15 +276,7 @@ impl<const ROWS: usize> Echelon<ROWS> {
         ensures unwritten { OnErr result (out.new ≡ out.old) }
         ensures solved { roomy (length vector.now) (length out.old) ROWS ≡ true → (laws : FieldLaws (F.Field.meaning field.now)) (v : ℕ → ℕ → Elem (F.Field.meaning field.now)) → Elems (F.Field.meaning field.now) vector.now → Table (F.Field.meaning field.now) laws (length vector.now) (length out.old) v self.now.rows self.now.pivots → Solved (F.Field.meaning field.now) laws (length vector.now) (length out.old) v vector.now out.new result }
     {
-        let count = out.len();
-        if !self.is_solvable(vector.len(), count) {
-            return Err(SolveFault::NoRoom);
-        }
-        let row = self.remainder(field, count, vector, vector.len() + count);
-        if rows::first_nonzero(field, &row, vector.len()).is_some() {
-            return Err(SolveFault::Outside);
-        }
-        rows::opposites(field, &row, vector.len(), out);
-        Ok(())
+        let mut row = [0; PITCH];
+        solve(field, &self.rows, &self.pivots, vector, &mut row, out)
     }
 }

@@ -1,6 +1,7 @@
 // Linear algebra over words, one text for every field: dot product, multiple of a row, matrix step,
 // elimination and least recurrence length, with the theory of recurrences and Hankel tables that they
-// rest on. Nothing is allocated: an echelon has its own memory, the recurrence works in what is lent.
+// rest on. Nothing is allocated: an echelon has its own memory; the elimination without one, and the
+// recurrence, work in what is lent.
 #![tactic(auto)]
 
 pub mod dot;

@@ -5,7 +5,6 @@ ghost use Rattle.linear.specs.Words.{sum_words, added};
 ghost use Rattle.linear.specs.Recurrence.{Room, Shortest};
 ghost use Rattle.linear.specs.Massey.{Held};
 
-use crate::dot::sum_of_products;
 use crate::multiple::add_multiple;
 use field::Field;
 
@@ -26,7 +25,12 @@ fn discrepancy<F: Field>(field: &F, c: &[u32], s: &[u32], l: usize, n: usize) ->
     requires room { l < length c.now }
     ensures { result ≡ sum_words (F.Field.meaning field.now) (l + 1) (λ i. (F.Field.meaning field.now).mul (slice_index c.now i) (slice_index s.now (n - i))) }
 {
-    sum_of_products(field, c[..l + 1].iter().zip(s[..n + 1].iter().rev()))
+    let mut sum = field.zero();
+    // By number: over bytes the words of an iterator that goes backwards take twice the time.
+    for i in 0..l + 1 {
+        sum = field.add(sum, field.mul(c[i], s[n - i]));
+    }
+    sum
 }
 
 // c + by x^lag b

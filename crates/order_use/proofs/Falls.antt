@@ -50,11 +50,11 @@ module _ (cmp : Comparison) (l : List Monomial) where
   unfolding rises
   rises_so k h d = grind (arith, nat_tests)
 
-  unfalling_none : ((k : ℕ) → k < length l → Fallen k) → unfalling cmp l ≡ None
+  pub unfalling_none : ((k : ℕ) → k < length l → Fallen k) → unfalling cmp l ≡ None
   unfolding rises
   unfalling_none h = first_none (length l) rises (λ k q. fallen_so k (h k q))
 
-  unfalling_at : (i : ℕ) → 0 < i → i < length l → ((k : ℕ) → k < i → Fallen k) → is_lt (cmp (listed l i) (listed l (i - 1))) ≡ false → unfalling cmp l ≡ Some i
+  pub unfalling_at : (i : ℕ) → 0 < i → i < length l → ((k : ℕ) → k < i → Fallen k) → is_lt (cmp (listed l i) (listed l (i - 1))) ≡ false → unfalling cmp l ≡ Some i
   unfolding rises
   unfalling_at i p q h d = first_at (length l) i rises q (λ k r. fallen_so k (h k r)) (rises_so i p d)
 
@@ -63,7 +63,7 @@ module _ (cmp : Comparison) (l : List Monomial) where
   fallen_from n h (suc k) q = h (suc k) (omega arith) q
 
   -- by transitivity
-  falls_so : OrderLaws cmp → ((k : ℕ) → k < length l → Fallen k) → Falling cmp (listed l) (length l)
+  pub falls_so : OrderLaws cmp → ((k : ℕ) → k < length l → Fallen k) → Falling cmp (listed l) (length l)
   falls_so L h i j p q = falls_throughout cmp L (listed l) (length l) small next i j p q
     where
       at : (k : ℕ) → Dec (0 < k) → k < length l → Small (listed l k)

@@ -55,6 +55,11 @@ module _ (number line : ℕ) (ts : List Term) where
   pub monomials_asked : (P : Monomial → Type 0) (fault : ℕ → JobFault) → Named number fault → (first : Option ℕ) (r : Result (Unit {0}) JobFault) → FirstNo (length ts) (λ j. P (get_or ts j no_term).monomial) first → RefusedFirst fault first r → Asked line (each number line (length (terms_of ts)) (λ i. P (monomial_at (terms_of ts) i)) ∷ []) r
   monomials_asked = terms_asked number line ts (monomial_at (terms_of ts)) (λ t. t.monomial) (λ i l. monomial_read ts i l no_term)
 
+-- a term that is less than the one before it
+pub falls_at : (cmp : Comparison) (p : List job.Term) (i : ℕ) → 1 ≤ i → cmp (monomial_at p i) (monomial_at p (i - 1)) ≡ Less → Falls cmp p i
+falls_at cmp p zero l e = tt
+falls_at cmp p (suc i) l e = let q : suc i - 1 ≡ i = omega arith in subst (λ (x : ℕ). cmp (monomial_at p (suc i)) (monomial_at p x) ≡ Less) q e
+
 -- a term and the next, as the code reads them side by side
 
 module _ (ts : List Term) where
@@ -73,9 +78,9 @@ module _ (ts : List Term) where
   read_pair : (cmp : Comparison) (i : ℕ) → suc i < length ts → cmp (monomial_at (terms_of ts) (suc i)) (monomial_at (terms_of ts) i) ≡ cmp (get_or ts (suc i) no_term).monomial (get_or ts i no_term).monomial
   read_pair cmp i l = ap₂ cmp (monomial_read ts (suc i) l no_term) (monomial_read ts i (omega arith) no_term)
 
-  falls_at : (cmp : Comparison) (c : ℕ) → c ≤ length pairs → AllWithin (Falling cmp) (zip ts (drop 1 ts)) 0 c → (j : ℕ) → j < c + 1 → Falls cmp (terms_of ts) j
-  falls_at cmp c le h zero l = tt
-  falls_at cmp c le h (suc i) l = let q : suc i < length ts = omega (arith, length_pairs) in read_pair cmp i q ∙ subst (Falling cmp) (pair_at i q) (h i (no_term, no_term) (omega arith) (omega arith))
+  falls_before : (cmp : Comparison) (c : ℕ) → c ≤ length pairs → AllWithin (Falling cmp) (zip ts (drop 1 ts)) 0 c → (j : ℕ) → j < c + 1 → Falls cmp (terms_of ts) j
+  falls_before cmp c le h zero l = tt
+  falls_before cmp c le h (suc i) l = let q : suc i < length ts = omega (arith, length_pairs) in read_pair cmp i q ∙ subst (Falling cmp) (pair_at i q) (h i (no_term, no_term) (omega arith) (omega arith))
 
   rises_at : (cmp : Comparison) (i : ℕ) → i < length (zip ts (drop 1 ts)) → HoldsAt (λ p. Falling cmp p → ⊥) (zip ts (drop 1 ts)) i → Falls cmp (terms_of ts) (suc i) → ⊥
   rises_at cmp i l h y = let q : suc i < length ts = omega (arith, length_pairs) in h (no_term, no_term) (subst (Falling cmp) (sym (pair_at i q)) (sym (read_pair cmp i q) ∙ y))
@@ -83,10 +88,10 @@ module _ (ts : List Term) where
   pub falling_asked : (cmp : Comparison) (line : ℕ) (first : Option ℕ) (r : Result (Unit {0}) JobFault)
       → MatchOption first (AllWithin (Falling cmp) (zip ts (drop 1 ts)) 0 (length (zip ts (drop 1 ts)))) (λ i. (i < length (zip ts (drop 1 ts))) × HoldsAt (λ p. Falling cmp p → ⊥) (zip ts (drop 1 ts)) i × AllWithin (Falling cmp) (zip ts (drop 1 ts)) 0 i)
       → MatchOption first (r ≡ Ok tt) (λ i. r ≡ Err (NotFalling (i + 2))) → Asked line (falling_ask cmp line (terms_of ts) ∷ []) r
-  falling_asked cmp line None r h e = asked_first 11 line (length (terms_of ts)) (Falls cmp (terms_of ts)) NotFalling (λ p. (refl, refl)) None r (λ j l. falls_at cmp (length pairs) (omega arith) h j (omega (arith, l, length_pairs, length_terms ts))) e
+  falling_asked cmp line None r h e = asked_first 11 line (length (terms_of ts)) (Falls cmp (terms_of ts)) NotFalling (λ p. (refl, refl)) None r (λ j l. falls_before cmp (length pairs) (omega arith) h j (omega (arith, l, length_pairs, length_terms ts))) e
   falling_asked cmp line (Some i) r h e =
       asked_first 11 line (length (terms_of ts)) (Falls cmp (terms_of ts)) NotFalling (λ p. (refl, refl)) (Some (suc i)) r
-      (omega (arith, h.0, length_pairs, length_terms ts), rises_at cmp i h.0 h.1, λ j l. falls_at cmp i (omega (arith, h.0)) h.2 j (omega arith))
+      (omega (arith, h.0, length_pairs, length_terms ts), rises_at cmp i h.0 h.1, λ j l. falls_before cmp i (omega (arith, h.0)) h.2 j (omega arith))
       (e ∙ ap (λ (p : ℕ). Err (NotFalling p)) (omega arith))
 
 pub first_read : (ts : List Term) (o : Option Term) (t : Term) (IsDefault : Term → Type 0) → o ≡ slice_get ts 0 → UnwrapsOrElse o IsDefault t → ((u : Term) → IsDefault u → u.monomial ≡ one) → t.monomial ≡ monomial_at (terms_of ts) 0

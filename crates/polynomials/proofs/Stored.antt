@@ -1,10 +1,10 @@
 -- Polynomials one after the other in one list of terms: how many terms they have, and what one more leaves.
-use Rattle.std.proofs.Common.{◌≡◌, ℕ, zero, suc, ◌+◌, ◌-◌, ◌<◌, ◌≤◌, List, [], ◌∷◌, ◌++◌, map, length, get_or, drop, sym, refl, ap, ◌∙◌, subst, ap₂, add-one, arith, length-drop}
+use Rattle.std.proofs.Common.{◌≡◌, ℕ, zero, suc, ◌+◌, ◌-◌, ◌<◌, ◌≤◌, ◌≢◌, List, [], ◌∷◌, ◌++◌, map, length, get_or, drop, set, sym, refl, ap, ◌∙◌, subst, ap₂, add-one, arith, length-drop, rules}
 use native.Mathlib.Decide.{ℕ_discrete}
+use borrow.Rule.Slice.PartMut.{put_mid}
 use lib.ListN.{length-map}
-use Rattle.std.proofs.Math.Seq.{drop-append_seam}
-use Rattle.std.proofs.lemmas.List.{map-append, length-take-le, length-append, length_push, take_all, take-append-le, get_or_push, get_or_append_left}
-use Rattle.std.proofs.lemmas.Slice.{between_is}
+use Rattle.std.proofs.lemmas.List.{length-take-le, get_or-set_same, get_or-set_other, places}
+use Rattle.std.proofs.lemmas.Slice.{between_is, take-put_mid_below, between-put_mid}
 use Rattle.algebra.specs.Lists.{build}
 use Rattle.runs.specs.Job as job
 use Rattle.runs.specs.Job.{terms_held}
@@ -22,6 +22,9 @@ module _ {A : Type 0} where
   length_part : (xs : List A) (a b : ℕ) → b ≤ length xs → length (part xs a b) ≡ b - a
   length_part xs a b h = length-take-le (b - a) (drop a xs) (omega (arith, length-drop a xs))
 
+  pub length_put : (a k : ℕ) (xs ys : List A) → a + k ≤ length xs → length ys ≡ k → length (put_mid a k xs ys) ≡ length xs
+  length_put a k xs ys h e = search (rules, places)
+
 pub length_terms : (ts : List Term) → length (terms_of ts) ≡ length ts
 length_terms ts = length-map {B = job.Term} ts (λ (t : Term). (t.coefficient, t.monomial))
 
@@ -33,89 +36,79 @@ terms_between xs (suc c) s up in' =
     let p = part xs (s 0) (s 1) in
     omega (arith, up 0 (omega arith), length_terms p, length_part xs (s 0) (s 1) (in' 1 (omega arith)), terms_between xs c (λ i. s (suc i)) (λ i l. up (suc i) (omega arith)) (λ i l. in' (suc i) (omega arith)))
 
--- one polynomial more, at the end: where the others begin and end stays, and so do their terms
-module _ (ends : List ℕ) (xs ts : List Term) (up : (i : ℕ) → i < length ends → get_or (0 ∷ ends) i 0 ≤ get_or ends i 0) (full : get_or (0 ∷ ends) (length ends) 0 ≡ length xs) where
-  abbrev end : ℕ
-  end = length (xs ++ ts)
+module _ (starts : List ℕ) (xs : List Term) (c : ℕ) (room : c + 1 < length starts) (end : ℕ) (ts : List Term) where
+  abbrev start : ℕ
+  start = get_or starts c 0
 
   abbrev after : List ℕ
-  after = ends ++ end ∷ []
+  after = set starts (c + 1) end
 
-  start_kept : (i : ℕ) → i ≤ length ends → get_or (0 ∷ (ends ++ length (xs ++ ts) ∷ [])) i 0 ≡ get_or (0 ∷ ends) i 0
-  start_kept zero l = refl
-  start_kept (suc i) l = get_or_append_left ends (length (xs ++ ts) ∷ []) 0 i (omega arith)
+  pub start_before : (i : ℕ) → i ≤ c → get_or after i 0 ≡ get_or starts i 0
+  start_before i l = let d : i ≢ c + 1 = omega arith in get_or-set_other starts (c + 1) i end 0 d
 
-  end_kept : (i : ℕ) → i < length ends → get_or (ends ++ length (xs ++ ts) ∷ []) i 0 ≡ get_or ends i 0
-  end_kept i l = get_or_append_left ends (length (xs ++ ts) ∷ []) 0 i l
+  pub start_last : get_or after (c + 1) 0 ≡ end
+  start_last = get_or-set_same starts (c + 1) end 0 room
 
-  end_last : get_or (ends ++ length (xs ++ ts) ∷ []) (length ends) 0 ≡ length (xs ++ ts)
-  end_last = get_or_push ends (length (xs ++ ts)) 0 (length ends) refl
+  module _ (up : (i : ℕ) → i < c → get_or starts i 0 ≤ get_or starts (suc i) 0) (in' : (i : ℕ) → i ≤ c → get_or starts i 0 ≤ length xs) (k : ℕ) where
+    up_to : (d : ℕ) (i : ℕ) → i + d ≡ c → get_or starts i 0 ≤ start
+    up_to zero i e = let q : i ≡ c = omega arith in subst (λ (x : ℕ). get_or starts x 0 ≤ start) (sym q) (omega arith)
+    up_to (suc d) i e = omega (arith, up i (omega arith), up_to d (suc i) (omega arith))
 
-  -- an end is no later than the last
-  up_to : (d i : ℕ) → i + d ≡ length ends → get_or (0 ∷ ends) i 0 ≤ length xs
-  up_to zero i e = let q : i ≡ length ends = omega arith in subst (λ (x : ℕ). get_or (0 ∷ ends) x 0 ≤ length xs) (sym q) (omega (arith, full))
-  up_to (suc d) i e = omega (arith, up i (omega arith), up_to d (suc i) (omega arith))
+    part_kept : (a b : ℕ) → b ≤ start → part (put_mid start k xs ts) a b ≡ part xs a b
+    part_kept a b l =
+        between_is (put_mid start k xs ts) a b
+        ∙ ap (drop a) (take-put_mid_below start k xs ts b l (in' c (omega arith)))
+        ∙ sym (between_is xs a b)
 
-  pub within : (i : ℕ) → i < length ends → get_or ends i 0 ≤ length xs
-  within i l = up_to (length ends - suc i) (suc i) (omega arith)
+    pub entries_more : length ts ≡ end - start
+        → build (c + 1) (λ i. part (put_mid start k xs ts) (get_or after i 0) (get_or after (suc i) 0)) ≡ build c (λ i. part xs (get_or starts i 0) (get_or starts (suc i) 0)) ++ (ts ∷ [])
+    entries_more len =
+        let f : ℕ → List Term = λ i. part (put_mid start k xs ts) (get_or after i 0) (get_or after (suc i) 0) in
+        let g : ℕ → List Term = λ i. part xs (get_or starts i 0) (get_or starts (suc i) 0) in
+        let last : f c ≡ ts =
+        ap₂ (part (put_mid start k xs ts)) (start_before c (omega arith)) (ap (λ (x : ℕ). get_or after x 0) (sym (add-one c)) ∙ start_last)
+        ∙ between-put_mid start k xs ts end (in' c (omega arith)) len in
+        let first : build c f ≡ build c g = build_same c f g (λ i l.
+        ap₂ (part (put_mid start k xs ts)) (start_before i (omega arith)) (start_before (suc i) (omega arith))
+        ∙ part_kept (get_or starts i 0) (get_or starts (suc i) 0) (up_to (c - suc i) (suc i) (omega arith))) in
+        ap (λ (x : ℕ). build x f) (add-one c) ∙ build_more c f ∙ ap₂ (λ (l : List (List Term)) (t : List Term). l ++ (t ∷ [])) first last
 
-  part_kept : (a b : ℕ) → b ≤ length xs → part (xs ++ ts) a b ≡ part xs a b
-  part_kept a b l = between_is (xs ++ ts) a b ∙ ap (drop a) (take-append-le b xs ts l) ∙ sym (between_is xs a b)
-
-  part_new : part (xs ++ ts) (length xs) (length (xs ++ ts)) ≡ ts
-  part_new = between_is (xs ++ ts) (length xs) (length (xs ++ ts)) ∙ ap (drop (length xs)) (take_all (length (xs ++ ts)) (xs ++ ts) (omega arith)) ∙ drop-append_seam xs ts
-
-  pub entries_more : build (length (ends ++ length (xs ++ ts) ∷ [])) (λ i. part (xs ++ ts) (get_or (0 ∷ (ends ++ length (xs ++ ts) ∷ [])) i 0) (get_or (ends ++ length (xs ++ ts) ∷ []) i 0)) ≡ build (length ends) (λ i. part xs (get_or (0 ∷ ends) i 0) (get_or ends i 0)) ++ (ts ∷ [])
-  entries_more =
-      let f : ℕ → List Term = λ i. part (xs ++ ts) (get_or (0 ∷ after) i 0) (get_or after i 0) in
-      let g : ℕ → List Term = λ i. part xs (get_or (0 ∷ ends) i 0) (get_or ends i 0) in
-      let last : f (length ends) ≡ ts = ap₂ (part (xs ++ ts)) (start_kept (length ends) (omega arith) ∙ full) end_last ∙ part_new in
-      let first : build (length ends) f ≡ build (length ends) g = build_same (length ends) f g (λ i l. ap₂ (part (xs ++ ts)) (start_kept i (omega arith)) (end_kept i l) ∙ part_kept (get_or (0 ∷ ends) i 0) (get_or ends i 0) (within i l)) in
-      ap (λ (x : ℕ). build x f) (length_push ends end ∙ add-one (length ends)) ∙ build_more (length ends) f ∙ ap₂ (λ (l : List (List Term)) (t : List Term). l ++ (t ∷ [])) first last
-
-  pub rises_more : (i : ℕ) → i < length (ends ++ length (xs ++ ts) ∷ []) → get_or (0 ∷ (ends ++ length (xs ++ ts) ∷ [])) i 0 ≤ get_or (ends ++ length (xs ++ ts) ∷ []) i 0
-  rises_more i l = go (ℕ_discrete i (length ends))
+  pub rises_more : ((i : ℕ) → i < c → get_or starts i 0 ≤ get_or starts (suc i) 0) → start ≤ end → (i : ℕ) → i < c + 1 → get_or after i 0 ≤ get_or after (suc i) 0
+  rises_more up le i l = go (ℕ_discrete i c)
     where
-      go : Dec (i ≡ length ends) → get_or (0 ∷ (ends ++ length (xs ++ ts) ∷ [])) i 0 ≤ get_or (ends ++ length (xs ++ ts) ∷ []) i 0
-      go (yes e) = subst (λ (j : ℕ). get_or (0 ∷ (ends ++ length (xs ++ ts) ∷ [])) j 0 ≤ get_or (ends ++ length (xs ++ ts) ∷ []) j 0) (sym e) (omega (arith, start_kept (length ends) (omega arith), full, end_last, length-append xs ts))
-      go (no d) = let q : i < length ends = omega (arith, length_push ends end) in omega (arith, start_kept i (omega arith), end_kept i q, up i q)
+      go : Dec (i ≡ c) → get_or after i 0 ≤ get_or after (suc i) 0
+      go (yes e) =
+          let q : get_or after (suc i) 0 ≡ end = ap (λ (x : ℕ). get_or after (suc x) 0) e ∙ ap (λ (x : ℕ). get_or after x 0) (sym (add-one c)) ∙ start_last in
+          omega (arith, q, start_before i (omega arith), ap (λ (x : ℕ). get_or starts x 0) e)
+      go (no d) = omega (arith, start_before i (omega arith), start_before (suc i) (omega arith), up i (omega arith))
 
-  pub full_more : get_or (0 ∷ (ends ++ length (xs ++ ts) ∷ [])) (length (ends ++ length (xs ++ ts) ∷ [])) 0 ≡ length (xs ++ ts)
-  full_more = ap (λ (k : ℕ). get_or (0 ∷ after) k 0) (length_push ends end ∙ add-one (length ends)) ∙ end_last
+  pub within_more : (most : ℕ) → ((i : ℕ) → i ≤ c → get_or starts i 0 ≤ most) → end ≤ most → (i : ℕ) → i ≤ c + 1 → get_or after i 0 ≤ most
+  within_more most in' le i l = go (ℕ_discrete i (c + 1))
+    where
+      go : Dec (i ≡ c + 1) → get_or after i 0 ≤ most
+      go (yes e) = omega (arith, ap (λ (x : ℕ). get_or after x 0) e, start_last)
+      go (no d) = omega (arith, start_before i (omega arith), in' i (omega arith))
 
 -- of a store
 
 module _ (s : Polynomials) where
-  entries_are : length (entries s) ≡ length s.ends.items
+  entries_are : length (entries s) ≡ s.count
   unfolding entries
-  entries_are = length_build (length s.ends.items) (λ i. part s.terms.items (get_or (0 ∷ s.ends.items) i 0) (get_or s.ends.items i 0))
+  entries_are = length_build s.count (λ i. part s.terms (get_or s.starts i 0) (get_or s.starts (suc i) 0))
 
   pub few_entries : length (entries s) ≤ 48
   few_entries = omega (arith, entries_are, s.few)
 
-  pub count_is : length (held s) ≡ length s.ends.items
+  pub count_is : length (held s) ≡ s.count
   count_is = length-map (entries s) terms_of ∙ entries_are
 
-  pub terms_held_is : terms_held (held s) ≡ length s.terms.items
+  pub terms_held_is : terms_held (held s) ≡ get_or s.starts s.count 0
   unfolding entries
   terms_held_is =
-      omega (arith, s.full, terms_between s.terms.items (length s.ends.items) (λ i. get_or (0 ∷ s.ends.items) i 0) s.rising (λ i l. start_within i l))
-    where
-      start_within : (i : ℕ) → i ≤ length s.ends.items → get_or (0 ∷ s.ends.items) i 0 ≤ length s.terms.items
-      start_within zero l = omega arith
-      start_within (suc i) l = within s.ends.items s.terms.items [] s.rising s.full i (omega arith)
+      omega (arith, s.begins, terms_between s.terms s.count (λ i. get_or s.starts i 0) s.rising (λ i l. omega (arith, s.within i l, s.room)))
 
   pub few_held : length (held s) ≤ 48
   few_held = omega (arith, count_is, s.few)
 
   pub few_terms : terms_held (held s) ≤ 1024
-  few_terms = omega (arith, terms_held_is, s.room)
-
--- one polynomial more
-
-pub held_more : (s t : Polynomials) (ts : List Term) → t.terms.items ≡ s.terms.items ++ ts → t.ends.items ≡ s.ends.items ++ length (s.terms.items ++ ts) ∷ [] → held t ≡ held s ++ (terms_of ts ∷ [])
-unfolding entries
-held_more s t ts e f =
-    ap₂ (λ (es : List ℕ) (xs : List Term). map terms_of (build (length es) (λ i. part xs (get_or (0 ∷ es) i 0) (get_or es i 0)))) f e
-    ∙ ap (map terms_of) (entries_more s.ends.items s.terms.items ts s.rising s.full)
-    ∙ map-append terms_of (entries s) (ts ∷ [])
+  few_terms = omega (arith, terms_held_is, s.within s.count (omega arith))

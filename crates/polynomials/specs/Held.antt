@@ -4,7 +4,7 @@
 --   entries s       the polynomials of the store s, first to last, by the code's terms
 --   held s          the same by a job's terms
 -- Used by: whatever reads or changes the polynomials of a job.
-use Rattle.std.specs.Prelude.{ℕ, List, ◌∷◌, map, length, slice_index, slice_range}
+use Rattle.std.specs.Prelude.{ℕ, suc, List, map, slice_index, slice_range}
 use Rattle.algebra.specs.Lists.{build}
 use Rattle.runs.specs.Job as job
 use Rattle.staircase.specs.declared.rules.Term.{Term}
@@ -16,9 +16,9 @@ terms_of ts = map (λ (t : Term). (t.coefficient, t.monomial)) ts
 abbrev pub part : {A : Type 0} → List A → ℕ → ℕ → List A
 part xs a b = slice_range xs a b
 
--- the first begins at 0, each other where the one before it ends
+-- each ends where the next begins
 unfoldable pub entries : Polynomials → List (List Term)
-entries s = build (length s.ends.items) (λ i. part s.terms.items (slice_index (0 ∷ s.ends.items) i) (slice_index s.ends.items i))
+entries s = build s.count (λ i. part s.terms (slice_index s.starts i) (slice_index s.starts (suc i)))
 
 abbrev pub held : Polynomials → List (List job.Term)
 held s = map terms_of (entries s)

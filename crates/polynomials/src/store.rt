@@ -1,18 +1,21 @@
-// Where the polynomials of a job stand: their terms one after the other, and where each ends. Only
+// Where the polynomials of a job stand: their terms one after the other, and where each begins. Only
 // this file and its child write the fields.
-ghost use Rattle.std.specs.Prelude.{◌≡◌, ℕ, ◌<◌, ◌≤◌, ◌∷◌, length, slice_index};
+ghost use Rattle.std.specs.Prelude.{◌≡◌, ℕ, suc, ◌<◌, ◌≤◌, length, slice_index};
 
-use arrayvec::ArrayVec;
 use staircase::Term;
 
 pub mod entries;
 
+// Arrays and a count, so that all polynomials are taken out by one write, however many they are.
 #[derive(Drop)]
 pub struct Polynomials {
-    terms: ArrayVec<Term, 1024>,
-    ends: ArrayVec<usize, 48>,
-    ghost few: { length ends.items ≤ 48 },
-    ghost room: { length terms.items ≤ 1024 },
-    ghost rising: { (i : ℕ) → i < length ends.items → slice_index (0 ∷ ends.items) i ≤ slice_index ends.items i },
-    ghost full: { slice_index (0 ∷ ends.items) (length ends.items) ≡ length terms.items },
+    count: usize,
+    starts: [usize; 49],
+    terms: [Term; 1024],
+    ghost places: { length starts ≡ 49 },
+    ghost room: { length terms ≡ 1024 },
+    ghost few: { count ≤ 48 },
+    ghost begins: { slice_index starts 0 ≡ 0 },
+    ghost rising: { (i : ℕ) → i < count → slice_index starts i ≤ slice_index starts (suc i) },
+    ghost within: { (i : ℕ) → i ≤ count → slice_index starts i ≤ 1024 },
 }

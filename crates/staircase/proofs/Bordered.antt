@@ -1,9 +1,9 @@
 -- The products outside a list of monomials, sorted, are its border.
-use Rattle.std.proofs.Common.{◌≡◌, ℕ, ◌+◌, ◌<◌, ◌≤◌, Bool, true, false, ◌≢◌, ◌⊎◌, List, map, length, get_or, sym, ap, ◌∙◌, subst, inl, inr, arith}
+use Rattle.std.proofs.Common.{◌≡◌, ℕ, ◌+◌, ◌<◌, ◌≤◌, Bool, true, false, ◌≢◌, ◌⊎◌, List, map, length, get_or, take, sym, ap, ◌∙◌, subst, inl, inr, arith}
 use mathlib.Core.Bool.{false≢true}
 use native.Mathlib.Decide.{ℕ_discrete, dec_lt}
 use Rattle.std.specs.List.{ContainsAt as Has, AllByRecursion}
-use Rattle.std.proofs.lemmas.List.{length-map, get_or-map, get_or_default}
+use Rattle.std.proofs.lemmas.List.{length-map, length-take-le, get_or-map, get_or_default}
 use Rattle.std.proofs.ByRecursion.{All-get_or, All-from_get_or, all-has, All-weaker, All-map}
 use Rattle.std.proofs.lemmas.Bool.{cases_Bool}
 use Rattle.order.specs.declared.monomial.Monomial.{Monomial}
@@ -138,6 +138,10 @@ module _ (n : ℕ) (stairs : List Monomial) (Q : Raisable n stairs) where
         covered : (k i : ℕ) → Taken stairs n 0 k i → (k < n) × (i < length stairs)
         covered k i (inl y) = y
         covered k i (inr y) = absurd (omega (arith, y.1))
+
+    -- the front of a list that holds them, and how long it is
+    pub border_written : (k : ℕ) (after : List Monomial) → k ≤ length after → Edges cmp stairs n 0 (take k after) → (k ≡ length (edges_of cmp n stairs)) × (take k after ≡ map (flat n) (edges_of cmp n stairs))
+    border_written k after h e = let is = border_is (take k after) e in (sym (length-take-le k after h) ∙ ap length is ∙ length-map (edges_of cmp n stairs) (flat n), is)
 
     -- what was taken on the way is no longer than the border
     pub border_longer : (K I : ℕ) (e : List Monomial) → K < n → I ≤ length stairs → Edges cmp stairs K I e → length e ≤ length (edges_of cmp n stairs)

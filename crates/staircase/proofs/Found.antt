@@ -1,7 +1,7 @@
 -- What the walk finds is the staircase: every monomial of it is free, and every free monomial is reached by products from 1.
-use Rattle.std.proofs.Common.{◌≡◌, ℕ, ◌<◌, ◌≤◌, Bool, true, cond, ◌≢◌, List, [], ◌∷◌, map, length, get_or, Some, sym, refl, ap, ◌∙◌, subst, ap₂, arith}
+use Rattle.std.proofs.Common.{◌≡◌, ℕ, ◌<◌, ◌≤◌, Bool, true, cond, ◌≢◌, List, [], ◌∷◌, map, length, get_or, take, Some, sym, refl, ap, ◌∙◌, subst, ap₂, arith}
 use Rattle.std.specs.List.{ContainsAt as Has, AllByRecursion}
-use Rattle.std.proofs.lemmas.List.{length-map, get_or-map, get_or_default}
+use Rattle.std.proofs.lemmas.List.{length-map, length-take-le, get_or-map, get_or_default}
 use Rattle.std.proofs.ByRecursion.{All-get_or, All-from_get_or, all-has}
 use Rattle.std.proofs.lemmas.Bool.{not-true, not_from_false}
 use Rattle.order.specs.declared.monomial.Monomial.{Monomial}
@@ -93,6 +93,12 @@ module _ (n : ℕ) (leads : List Monomial) (Q : Leading n leads) where
 
         resorted : (t : Mono n) → Among n t (map (nested n) l) → Among n t (sorted n (before_by cmp n) (map (nested n) l))
         resorted t a = monos.has_among n t _ (sorting.sorted_has n (before_by cmp n) (map (nested n) l) t ∙ monos.among_has n t (map (nested n) l) a)
+
+    -- the front of a list that holds it, and how long it is
+    pub staircase_written : (l : List Monomial) (c : ℕ) → length l ≡ c → Walked n leads l c → (k : ℕ) (after : List Monomial) → k ≤ length after → take k after ≡ sorted_by cmp l → (k ≡ length (stairs_of cmp n leads)) × (take k after ≡ map (flat n) (stairs_of cmp n leads))
+    staircase_written l c long w k after h e =
+        let is = e ∙ staircase_found l (subst (Walked n leads l) (sym long) w) in
+        (sym (length-take-le k after h) ∙ ap length is ∙ length-map (stairs_of cmp n leads) (flat n), is)
 
     -- different free monomials are no more than the staircase has
     pub found_fewer : (l : List Monomial) → Good n leads l → length l ≤ length (stairs_of cmp n leads)

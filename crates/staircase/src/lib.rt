@@ -1,5 +1,5 @@
-// The staircase of leading monomials, its border and the places of the products, under any order.
-// Lists have a fixed capacity: nothing here allocates or holds state.
+// The staircase of leading monomials, its border and the places of the products, under any order,
+// over lent lists of monomials or lists of a fixed capacity. Nothing here allocates or holds state.
 #![tactic(auto)]
 
 pub mod edges;
@@ -10,8 +10,8 @@ mod sorting;
 pub mod stairs;
 mod walk;
 
-pub use edges::border;
+pub use edges::{border, border_into};
 pub use products::places;
 pub use rules::{Term, next_column, opposite_column};
 pub use search::{any_divides, place_of};
-pub use stairs::{TooMany, staircase};
+pub use stairs::{StairsFault, TooMany, staircase, staircase_into};

@@ -1,10 +1,9 @@
-// Increasing lists of monomials under any order: insertion, and sorting. A monomial that is there
-// already is not put in again.
-ghost use Rattle.std.specs.Prelude.{◌≡◌, ◌+◌, ◌<◌, ◌≤◌, length, insert, MatchResult};
-ghost use Rattle.arrayvec.specs.ArrayVec.{array_vec_len};
+// Increasing lists of monomials under any order: insertion into the front of a lent list, and
+// sorting. A monomial that is there already is not put in again.
+ghost use Rattle.std.specs.Prelude.{◌≡◌, ◌+◌, ◌<◌, ◌≤◌, length, take, insert, IfSome, IfNone, MatchResult};
 ghost use Rattle.staircase.specs.Sorting.{inserted_by, sorted_by};
+ghost use Rattle.staircase.specs.Edges.{PastStays};
 
-use arrayvec::{ArrayVec, CapacityError};
 use order::{Monomial, Order};
 use std::cmp::Ordering;
 
@@ -13,45 +12,59 @@ use std::cmp::Ordering;
 fn place<O: Order>(order: &O, list: &[Monomial], m: Monomial) -> Result<usize, usize>
     ensures { MatchResult result (λ _. inserted_by (O.Order.meaning order.now) m list.now ≡ list.now) (λ at. (at ≤ length list.now) × (inserted_by (O.Order.meaning order.now) m list.now ≡ insert list.now at m)) }
 {
-    let at = list
-        .iter()
-        .position(|x| order.compare(m, *x) != Ordering::Greater)
-        .unwrap_or(list.len());
-    if list
-        .get(at)
-        .is_some_and(|x| order.compare(m, *x) == Ordering::Equal)
-    {
-        Ok(at)
-    } else {
-        Err(at)
+    for (i, x) in list.iter().enumerate() {
+        match order.compare(m, *x) {
+            Ordering::Less => return Err(i),
+            Ordering::Equal => return Ok(i),
+            Ordering::Greater => {}
+        }
     }
+    Err(list.len())
 }
 
-// Puts `m` into an increasing list: an error where there is no room for it.
-pub(crate) fn insert<O: Order, const CAP: usize>(
+// Puts `m` into the increasing first `count` of `list`, and says how many there are then: none
+// where there is no room for it.
+pub(crate) fn insert<O: Order>(
     order: &O,
-    list: &mut ArrayVec<Monomial, CAP>,
+    list: &mut [Monomial],
+    count: usize,
     m: Monomial,
-) -> Result<(), CapacityError<Monomial>>
-    ensures { MatchResult result (λ _. list.new.items ≡ inserted_by (O.Order.meaning order.now) m list.old.items) (λ _. (array_vec_len list.old ≡ CAP) × (length (inserted_by (O.Order.meaning order.now) m list.old.items) ≡ CAP + 1)) }
+) -> Option<usize>
+    requires { count ≤ length list.old }
+    ensures fits { IfSome result (λ k. (count ≤ k) × (k ≤ count + 1) × (k ≤ length list.old)) }
+    ensures inserted { IfSome result
+        (λ k. take k list.new ≡ inserted_by (O.Order.meaning order.now) m (take count list.old)) }
+    ensures rest_unchanged { PastStays list.old list.new result }
+    ensures full { IfNone result (count ≡ length list.old) }
+    ensures longer { IfNone result
+        (length (inserted_by (O.Order.meaning order.now) m list.old) ≡ count + 1) }
+    ensures refused_as_was { IfNone result (list.new ≡ list.old) }
 {
-    match place(order, list, m) {
-        Ok(_) => Ok(()),
-        Err(at) => list.try_insert(at, m),
+    match place(order, &list[..count], m) {
+        Ok(_) => Some(count),
+        Err(at) => {
+            if count == list.len() {
+                return None;
+            }
+            list.copy_within(at..count, at + 1);
+            list[at] = m;
+            Some(count + 1)
+        }
     }
 }
 
-// The monomials of `from` in increasing order, each once: an error only where `from` is longer than
-// the list can be.
-pub(crate) fn sort<O: Order, const CAP: usize>(
-    order: &O,
-    from: &[Monomial],
-) -> Result<ArrayVec<Monomial, CAP>, CapacityError<Monomial>>
-    ensures { MatchResult result (λ list. list.items ≡ sorted_by (O.Order.meaning order.now) from.now) (λ _. CAP < length from.now) }
+// Puts the monomials of `from` into `into` in increasing order, each once, and says how many there
+// are then: none only where `into` is shorter than `from`.
+pub(crate) fn sort<O: Order>(order: &O, from: &[Monomial], into: &mut [Monomial]) -> Option<usize>
+    ensures fits { IfSome result (λ k. k ≤ length into.old) }
+    ensures sorted { IfSome result
+        (λ k. take k into.new ≡ sorted_by (O.Order.meaning order.now) from.now) }
+    ensures rest_unchanged { PastStays into.old into.new result }
+    ensures full { IfNone result (length into.old < length from.now) }
 {
-    let mut list = ArrayVec::new();
+    let mut count = 0;
     for m in from.iter().rev() {
-        insert(order, &mut list, *m)?;
+        count = insert(order, into, count, *m)?;
     }
-    Ok(list)
+    Some(count)
 }

@@ -1,68 +1,74 @@
 // The walk from 1: every free monomial but 1 is a variable times a free one, so that the free
 // monomials are found by products, in the order in which they come, and the box of exponents is
-// never gone through.
-ghost use Rattle.std.specs.Prelude.{◌≡◌, ◌+◌, List, length, MatchResult};
-ghost use Rattle.arrayvec.specs.ArrayVec.{array_vec_len};
-ghost use Rattle.order.specs.declared.monomial.Monomial.{Monomial as Record};
+// never gone through. Writes only the list that it is lent.
+ghost use Rattle.std.specs.Prelude.{◌≡◌, ◌≤◌, length, take, IfSome, IfNone};
 ghost use Rattle.algebra.specs.Records.{Within};
-ghost use Rattle.staircase.specs.Walk.{New, Offered, Good, Grown, Walked};
+ghost use Rattle.staircase.specs.Walk.{New, Offered, Good, GoodPast, Grown, Walked};
 
 use crate::search::{any_divides, place_of};
-use arrayvec::{ArrayVec, CapacityError};
 use order::Monomial;
 
-// Puts `m` after the monomials of `found`, unless it is there or some lead divides it: an error
-// where there is no room for it.
-fn offer<const CAP: usize>(
-    leads: &[Monomial],
-    found: &mut ArrayVec<Monomial, CAP>,
-    m: Monomial,
-) -> Result<(), CapacityError<Monomial>>
-    ensures { MatchResult result (λ _. Offered leads.now found.old.items m found.new.items) (λ _. (array_vec_len found.old ≡ CAP) × New leads.now found.old.items m) }
+// Puts `m` after the first `count` of `found`, unless it is there or some lead divides it, and says
+// how many there are then: none where there is no room for it.
+fn offer(leads: &[Monomial], found: &mut [Monomial], count: usize, m: Monomial) -> Option<usize>
+    requires { count ≤ length found.old }
+    ensures fits { IfSome result (λ k. k ≤ length found.old) }
+    ensures offered { IfSome result
+        (λ k. Offered leads.now (take count found.old) m (take k found.new)) }
+    ensures full { IfNone result (count ≡ length found.old) }
+    ensures new { IfNone result (New leads.now (take count found.old) m) }
 {
-    if any_divides(leads, m) || place_of(found, m).is_some() {
-        return Ok(());
+    if any_divides(leads, m) || place_of(&found[..count], m).is_some() {
+        return Some(count);
     }
-    found.try_push(m)
+    if count == found.len() {
+        return None;
+    }
+    found[count] = m;
+    Some(count + 1)
 }
 
 // Offers the products of `m` and the first `n` variables.
-fn grow<const CAP: usize>(
+fn grow(
     n: usize,
     leads: &[Monomial],
-    found: &mut ArrayVec<Monomial, CAP>,
+    found: &mut [Monomial],
+    count: usize,
     m: Monomial,
-) -> Result<(), CapacityError<Monomial>>
-    requires good { Good n leads.now found.old.items }
+) -> Option<usize>
+    requires room { count ≤ length found.old }
+    requires good { Good n leads.now (take count found.old) }
     requires within { Within n m }
-    ensures { MatchResult result (λ _. Grown n leads.now found.old.items m n found.new.items) (λ _. (l : List Record) × (length l ≡ CAP + 1) × Good n leads.now l) }
+    ensures fits { IfSome result (λ k. k ≤ length found.old) }
+    ensures grown { IfSome result
+        (λ k. Grown n leads.now (take count found.old) m n (take k found.new)) }
+    ensures full { IfNone result (GoodPast n leads.now (length found.old)) }
 {
+    let mut count = count;
     // By number: a variable has no other name.
     for k in 0..n {
         let Some(t) = m.raised(k) else {
             continue;
         };
-        offer(leads, found, t)?;
+        count = offer(leads, found, count, t)?;
     }
-    Ok(())
+    Some(count)
 }
 
-// The free monomials of the first `n` variables, in the order in which they are found: an error
-// where there are more than the list holds.
-pub(crate) fn collect<const CAP: usize>(
-    n: usize,
-    leads: &[Monomial],
-) -> Result<ArrayVec<Monomial, CAP>, CapacityError<Monomial>>
-    ensures { MatchResult result (λ found. Walked n leads.now found.items (array_vec_len found)) (λ _. (l : List Record) × (length l ≡ CAP + 1) × Good n leads.now l) }
+// The free monomials of the first `n` variables, in the order in which they are found: none where
+// there are more than `found` holds.
+pub(crate) fn collect(n: usize, leads: &[Monomial], found: &mut [Monomial]) -> Option<usize>
+    ensures fits { IfSome result (λ c. c ≤ length found.old) }
+    ensures walked { IfSome result (λ c. Walked n leads.now (take c found.new) c) }
+    ensures full { IfNone result (GoodPast n leads.now (length found.old)) }
 {
-    let mut found = ArrayVec::new();
-    offer(leads, &mut found, Monomial::one())?;
+    let mut count = offer(leads, found, 0, Monomial::one())?;
     let mut i = 0;
     // By an index, since the list grows as it is walked and no iterator may borrow it.
-    while i < found.len() {
+    while i < count {
         let m = found[i];
-        grow(n, leads, &mut found, m)?;
+        count = grow(n, leads, found, count, m)?;
         i += 1;
     }
-    Ok(found)
+    Some(count)
 }

@@ -1,5 +1,5 @@
 -- The questions of Close, one group after the other.
-use Rattle.std.proofs.Common.{◌≡◌, ℕ, ◌<◌, ◌≤◌, List, [], ◌∷◌, ◌++◌, length, IsErrAnd, Result, sym, refl, ap, ◌∙◌, subst, inl, arith}
+use Rattle.std.proofs.Common.{◌≡◌, ℕ, ◌-◌, ◌<◌, ◌≤◌, List, [], ◌∷◌, ◌++◌, length, take, IsErrAnd, Result, sym, refl, ap, ◌∙◌, subst, inl, arith}
 use Rattle.field.specs.Meaning.{FieldMeaning, FieldLaws}
 use Rattle.order.specs.declared.monomial.Monomial.{Monomial}
 use Rattle.order.specs.Monomials.{variables}
@@ -24,6 +24,10 @@ use Rattle.polynomials.proofs.Answering.{refused_first, refused_after, asked_aft
 use Rattle.polynomials.proofs.LeadMonomials.{stairs_same, leading}
 use Rattle.tables.specs.Filling.{Closable}
 
+-- a list cut at its front
+pub cut_front : {X : Type 0} (k : ℕ) (xs ys : List X) → take k xs ≡ ys → take (k - 0) xs ≡ ys
+cut_front k xs ys e = let w : k - 0 ≡ k = omega arith in ap (λ (i : ℕ). take i xs) w ∙ e
+
 module _ (m : FieldMeaning) (laws : FieldLaws m) (cmp : Comparison) (O : OrderLaws cmp) (n : ℕ) (ps : List (List Term)) (few : n ≤ variables) (en : Enters m cmp (new n) ps) where
   abbrev size_ask : Question
   size_ask = single 16 0 (D m laws cmp n ps ≤ most_stairs)
@@ -35,6 +39,9 @@ module _ (m : FieldMeaning) (laws : FieldLaws m) (cmp : Comparison) (O : OrderLa
 
   pub leads_refused : {A : Type 0} (r : Result A JobFault) (f : JobFault) → IsErrAnd r (λ e. e ≡ f) → Refused (lead_asks m laws n ps) (number_of f) 0 (place_of f) → Asked 0 (stairs_asks m laws cmp n ps) r
   leads_refused r f b x = asked_break 0 [] (lead_asks m laws n ps) (size_ask ∷ inside_ask m laws cmp n ps ∷ []) r f b tt x
+
+  pub leads_refused_not : (f : JobFault) → Refused (lead_asks m laws n ps) (number_of f) 0 (place_of f) → AllYes (stairs_asks m laws cmp n ps) → ⊥
+  leads_refused_not f x y = refused_not (lead_asks m laws n ps) (number_of f) 0 (place_of f) (yes_first (lead_asks m laws n ps) (size_ask ∷ inside_ask m laws cmp n ps ∷ []) y) x
 
   module _ (leads : List Monomial) (are : leads ≡ leads_of ps) (yes : AllYes (lead_asks m laws n ps)) where
     pub leads_lead : Leading n leads

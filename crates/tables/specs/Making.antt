@@ -1,8 +1,9 @@
 -- The questions of Close put to polynomials, and the tables made on the way.
 --   StairsAsked cmp n ps r      r is the answer to the questions before the last, over every field: the staircase, or the first that gets a no
 --   Made m cmp n ps r           r is the answer to all questions: the tables of those polynomials, or the first that gets a no
+--   MadeIn m cmp n ps o r       the same where r has the number of staircase monomials, and o the tables
 -- Used by: Close.
-use Rattle.std.specs.Prelude.{◌≡◌, ℕ, ◌≤◌, List, map, Ok, Err, Result, IfOk}
+use Rattle.std.specs.Prelude.{◌≡◌, ℕ, ◌≤◌, List, map, Some, Option, Ok, Err, Result, IfOk}
 use Rattle.arrayvec.specs.ArrayVec.{ArrayVec}
 use Rattle.field.specs.Meaning.{FieldMeaning, FieldLaws}
 use Rattle.order.specs.declared.monomial.Monomial.{Monomial}
@@ -19,7 +20,7 @@ use Rattle.polynomials.specs.declared.fault.JobFault.{JobFault}
 use Rattle.polynomials.specs.Faults.{number_of, place_of}
 use Rattle.polynomials.specs.Asked.{Asked}
 use Rattle.tables.specs.declared.tables.Tables.{Tables}
-use Rattle.tables.specs.Holds.{Holds}
+use Rattle.tables.specs.Holds.{stair_count, Holds}
 
 abbrev pub StairsAsked : Comparison → ℕ → List (List Term) → Result (ArrayVec Monomial) JobFault → Type 0
 StairsAsked cmp n ps r = (m : FieldMeaning) (laws : FieldLaws m) → n ≤ variables → Enters m cmp (new n) ps
@@ -28,3 +29,7 @@ StairsAsked cmp n ps r = (m : FieldMeaning) (laws : FieldLaws m) → n ≤ varia
 abbrev pub Made : FieldMeaning → Comparison → ℕ → List (List Term) → Result Tables JobFault → Type 0
 Made m cmp n ps (Ok t) = (laws : FieldLaws m) → n ≤ variables → Enters m cmp (new n) ps → AllYes (basis_asks m laws cmp n ps) × Holds m laws cmp n ps t
 Made m cmp n ps (Err f) = (laws : FieldLaws m) → n ≤ variables → Enters m cmp (new n) ps → Refused (basis_asks m laws cmp n ps) (number_of f) 0 (place_of f)
+
+abbrev pub MadeIn : FieldMeaning → Comparison → ℕ → List (List Term) → Option Tables → Result ℕ JobFault → Type 0
+MadeIn m cmp n ps o (Ok d) = (t : Tables) × (o ≡ Some t) × (d ≡ stair_count t) × Made m cmp n ps (Ok t)
+MadeIn m cmp n ps o (Err f) = Made m cmp n ps (Err f)

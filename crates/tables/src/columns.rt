@@ -90,9 +90,10 @@ impl<'b, 'a, F: Field> Edge<'b, 'a, F> {
 impl<'a, F: Field> Frame<'a, F> {
     // The columns of all border monomials, in their order: refused where one falls under no rule.
     pub(crate) fn fill_columns(&self, columns: &mut [u32; 9216]) -> Result<(), Misfit>
-        ensures { ColumnsMade (F.Field.meaning self.now.field.now) self.now.n (entries self.now.polynomials.now) self.now.stairs.now self.now.edges.now self.now.products.now columns.new result }
+        ensures made { ColumnsMade (F.Field.meaning self.now.field.now) self.now.n (entries self.now.polynomials.now) self.now.stairs.now self.now.edges.now self.now.products.now columns.new result }
+        ensures room { length columns.new ≡ 9216 }
     {
-        columns.fill(self.field.zero());
+        columns[..self.edges.len() * STRIDE].fill(self.field.zero());
         // By number: an edge is its place, by which the monomial and the column are both asked for.
         for c in 0..self.edges.len() {
             let edge = Edge {

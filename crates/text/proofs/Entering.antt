@@ -133,6 +133,19 @@ module _ (m : FieldMeaning) (cmp : Comparison) where
   -- ---- all polynomials
 
   module _ (k : ℕ) (j : Job) (p : Reader) where
+    pub polynomials_none : PolynomialsWalked m cmp k 0 j p j p
+    polynomials_none =
+        let e : k - 0 ≡ k = omega arith in
+        record {
+          refuses = λ number line place r. subst (λ (x : ℕ). Refused (polynomials_asks m cmp p.place.line j x (left p)) number line place) e r;
+          accepts = λ y. subst (λ (x : ℕ). AllYes (polynomials_asks m cmp p.place.line j x (left p))) e y;
+          rest = ap (λ (x : ℕ). past_all j.n x (left p)) e;
+          enters = ap (λ (x : ℕ). holding j (polynomials j.n x (left p))) e;
+          same_n = refl;
+          same_stage = refl;
+          same_text = refl;
+        }
+
     module _ (i : ℕ) (j' : Job) (q : Reader) (h : i < k) (w : PolynomialsWalked m cmp k i j p j' q) where
       abbrev there : List ℕ
       there = left q

@@ -1,5 +1,5 @@
 -- A line that was read, and one that was not: what its questions got, and what stands after it.
-use Rattle.std.proofs.Common.{◌≡◌, ℕ, ◌+◌, true, List, length, drop, replicate, IfOk, Ok, Err, Result, sym, refl, ap, ◌∙◌, ap₂, subst, inl, inr, arith, drop-drop}
+use Rattle.std.proofs.Common.{◌≡◌, ℕ, ◌+◌, ◌≤◌, true, List, length, drop, replicate, IfOk, Ok, Err, Result, sym, refl, ap, ◌∙◌, ap₂, subst, inl, inr, arith, length-drop, drop-drop}
 use Rattle.std.specs.Result.{result_unwrap_or, result_map_both}
 use Rattle.column.specs.Line.{line, line_length, ReadsLine, exact, LineTaken, fault_number}
 use Rattle.column.specs.Walk.{byte_after}
@@ -13,7 +13,7 @@ use Rattle.runs.specs.Text.{words, line_asks}
 use Rattle.column.specs.declared.reader.Reader.{Reader}
 use Rattle.column.specs.Walk.{left}
 use Rattle.text.specs.declared.fault.TextFault.TheVariants.{Line}
-use Rattle.text.specs.Steps.{LineRead}
+use Rattle.text.specs.Steps.{LinePassed, LineRead}
 
 module _ (c : ℕ) (bs : List ℕ) where
   -- the two questions of a line that reads
@@ -46,3 +46,11 @@ module _ (old new : List ℕ) (p : Reader) where
   pub line_answered : (r : Result Reader LineFault) → IfOk r (λ q. q.text.now ≡ p.text.now) → LineTaken p.text.now p.place.at old new (byte_after r) → IfOk r (λ q. q.place.line ≡ p.place.line + 1) → LineRead (length old) p new (result_map_both (λ q. q) (λ f. Line f p.place.line) r)
   line_answered (Ok q) same h after = line_passed q same after h
   line_answered (Err f) same h after = line_no (length old) (left p) p.place.line f h.0
+
+-- a reader of the same text that has no more bytes left is at no earlier byte
+pub further : (p q : Reader) → q.text.now ≡ p.text.now → length (left q) ≤ length (left p) → p.place.at ≤ q.place.at
+further p q same h = omega (arith, h, ap length same, length-drop p.place.at p.text.now, length-drop q.place.at q.text.now, p.inside, q.inside)
+
+-- so is one that passed a line
+pub line_further : (c : ℕ) (p q : Reader) → LinePassed c p q → p.place.at ≤ q.place.at
+line_further c p q l = further p q l.same_text (omega (arith, ap length l.rest, length-drop (line_length c) (left p)))

@@ -1,6 +1,6 @@
 -- A walk over k lines, one turn at a time: what is asked, what follows and, where they are of terms, what is read is as from the start.
-use Rattle.std.proofs.Common.{◌≡◌, ℕ, suc, ◌+◌, ◌-◌, ◌<◌, ◌≤◌, List, [], ◌∷◌, ◌++◌, length, take, set, Result, sym, refl, ap, ◌∙◌, subst, ap₂, arith}
-use Rattle.std.proofs.lemmas.List.{append_assoc, append-nil, length-take-le, map-append, take_more_set}
+use Rattle.std.proofs.Common.{◌≡◌, ℕ, zero, suc, ◌+◌, ◌-◌, ◌<◌, ◌≤◌, List, [], ◌∷◌, ◌++◌, length, take, set, Result, sym, refl, ap, ◌∙◌, subst, ap₂, arith}
+use Rattle.std.proofs.lemmas.List.{append_assoc, append-nil, length-drop, length-take-le, map-append, take_more_set}
 use Rattle.staircase.specs.declared.rules.Term.{Term}
 use Rattle.polynomials.specs.Held.{terms_of}
 use Rattle.polynomials.proofs.Answering.{refused_first, refused_after}
@@ -8,14 +8,25 @@ use Rattle.runs.specs.Job as job
 use Rattle.runs.specs.Question.{AllYes, Refused}
 use Rattle.runs.specs.Text.{words, next, term, terms, past_terms, line_asks, lines_asks}
 use Rattle.runs.proofs.Questions.{yes_append}
+use Rattle.column.specs.Line.{line_length}
 use Rattle.column.specs.declared.reader.Reader.{Reader}
 use Rattle.column.specs.Walk.{left}
 use Rattle.text.specs.Clamped.{clamped, clamped_terms}
 use Rattle.text.specs.declared.fault.TextFault.{TextFault}
 use Rattle.text.specs.Steps.{LinePassed, LinesPassed, TermsRead, LinesWalked, TermsWalked}
+use Rattle.text.proofs.Passing.{further, line_further}
 
 pub one_less : (k i : ℕ) → i < k → k - i ≡ suc (k - (i + 1))
 one_less k i h = omega arith
+
+-- what follows k lines is no longer than all of it
+lines_leave : (c k : ℕ) (bs : List ℕ) → length (past_terms c k bs) ≤ length bs
+lines_leave c zero bs = omega arith
+lines_leave c (suc k) bs = omega (arith, lines_leave c k (next c bs), length-drop (line_length c) bs)
+
+-- a reader that passed k lines is at no earlier byte
+pub lines_further : (c k : ℕ) (p q : Reader) → LinesPassed c k p q → p.place.at ≤ q.place.at
+lines_further c k p q l = further p q l.same_text (omega (arith, ap length l.rest, lines_leave c k (left p)))
 
 module _ (c k : ℕ) (p : Reader) where
   pub lines_walked_none : LinesWalked c k 0 p p
@@ -26,6 +37,7 @@ module _ (c k : ℕ) (p : Reader) where
         accepts = λ y. subst (λ (j : ℕ). AllYes (lines_asks p.place.line c j (left p))) e y;
         rest = ap (λ (j : ℕ). past_terms c j (left p)) e;
         line = omega arith;
+        further = omega arith;
         same_text = refl;
       }
 
@@ -55,6 +67,7 @@ module _ (c k : ℕ) (p : Reader) where
         accepts = λ y. w.accepts (yes-there y);
         rest = rest-there ∙ w.rest;
         line = omega (arith, l.line, w.line);
+        further = omega (arith, line_further c q s l, w.further);
         same_text = l.same_text ∙ w.same_text;
       }
 

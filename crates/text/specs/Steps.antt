@@ -4,9 +4,9 @@
 --   LineRead             the answer of reading a line into words: the reader at the next, or the question that got a no
 --   CountRead            the same of the line with a polynomial's number of terms
 --   TermsRead            the same of k term lines, the terms standing at the front of out, clamped
---   LinesWalked          i of k lines are read: what is asked and what follows is as from the start
+--   LinesWalked          i of k lines are read: what is asked and what follows is as from the start, and the reader is at no earlier byte
 --   TermsWalked          they are lines of terms, and what is read is as from the start too
-use Rattle.std.specs.Prelude.{◌≡◌, ℕ, suc, ◌+◌, ◌-◌, List, ◌++◌, take, Ok, Err, Result}
+use Rattle.std.specs.Prelude.{◌≡◌, ℕ, suc, ◌+◌, ◌-◌, ◌≤◌, List, ◌++◌, take, Ok, Err, Result}
 use Rattle.staircase.specs.declared.rules.Term.{Term}
 use Rattle.polynomials.specs.Held.{terms_of}
 use Rattle.runs.specs.Question.{AllYes, Refused}
@@ -46,6 +46,7 @@ pub record LinesWalked (c k i : ℕ) (p q : Reader) : Type 0 where
   pub accepts : AllYes (lines_asks q.place.line c (k - i) (left q)) → AllYes (lines_asks p.place.line c k (left p))
   pub rest : past_terms c (k - i) (left q) ≡ past_terms c k (left p)
   pub line : q.place.line ≡ p.place.line + i
+  pub further : p.place.at ≤ q.place.at
   pub same_text : q.text.now ≡ p.text.now
 
 pub record TermsWalked (c k i : ℕ) (p q : Reader) (out : List Term) : Type 0 where

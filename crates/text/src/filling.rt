@@ -32,7 +32,7 @@ const AFTER_HEADER: Place = Place {
 fn about_line(answer: Result<(), JobFault>, line: usize) -> Result<(), TextFault>
     ensures { result ≡ result_map_both (λ x. x) (λ f. fault.Job f line) answer }
 {
-    answer.map_err(|fault| TextFault::Job(fault, line))
+    answer.map_err(|fault| TextFault::from(fault).in_line(line))
 }
 
 // Enters the polynomial that the reader is at and answers the reader after it. What the job refuses

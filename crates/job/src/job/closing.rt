@@ -4,6 +4,7 @@ ghost use Rattle.runs.specs.Call as call;
 ghost use Rattle.job.specs.Parts.{SameFieldAndOrder};
 ghost use Rattle.job.specs.Promise.{answer_of, Promised};
 
+use crate::table::asking::take_out;
 use crate::{Job, JobFault};
 use field::Field;
 use order::Order;
@@ -17,14 +18,16 @@ impl<F: Field, O: Order> Job<F, O> {
         ensures same_field_and_order { SameFieldAndOrder self.old self.new }
     {
         self.table.ask_open()?;
-        let tables = Tables::make(
+        let made = Tables::make_in(
+            &mut self.table.tables,
             &self.field,
             &self.order,
             self.table.n,
             &self.table.polynomials,
-        )?;
-        let size = tables.size();
-        self.table.tables = Some(tables);
-        Ok(size)
+        );
+        if made.is_err() {
+            take_out(&mut self.table.tables);
+        }
+        made
     }
 }

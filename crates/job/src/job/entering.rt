@@ -11,7 +11,7 @@ ghost use Rattle.job.specs.Parts.{SameFieldAndOrder};
 ghost use Rattle.job.specs.State.{state, Kept};
 ghost use Rattle.job.specs.Promise.{answer_of, Promised};
 
-use crate::table::Table;
+use crate::table::asking::take_out;
 use crate::{Job, JobFault, Term};
 use field::Field;
 use order::{Monomial, Order};
@@ -28,7 +28,8 @@ impl<F: Field, O: Order> Job<F, O> {
         if !(1..=Monomial::VARIABLES).contains(&n) {
             return Err(JobFault::Variables);
         }
-        self.table = Table::new(n);
+        self.table.n = n;
+        self.clear();
         Ok(())
     }
 
@@ -38,7 +39,8 @@ impl<F: Field, O: Order> Job<F, O> {
         ensures kept { (laws : FieldLaws (F.Field.meaning self.old.field)) → Kept (F.Field.meaning self.old.field) laws (O.Order.meaning self.old.order) self.new.table }
         ensures same_field_and_order { SameFieldAndOrder self.old self.new }
     {
-        self.table = Table::new(self.table.n);
+        self.table.polynomials.clear();
+        take_out(&mut self.table.tables);
     }
 
     // Whether there is room for one more polynomial of so many terms.

@@ -1,4 +1,4 @@
-// The making of a table, and the question whether its job is open or closed.
+// The making of a table, the question whether its job is open or closed, and opening it again.
 ghost use Rattle.std.specs.Prelude.{◌≡◌, ◌≤◌, Some, None, Ok, Err};
 ghost use Rattle.polynomials.specs.declared.fault.JobFault.TheVariants.{NotOpen, NotClosed};
 ghost use Rattle.runs.specs.Job as def;
@@ -38,5 +38,21 @@ impl Table {
         ensures { elim result [ Ok t ↦ self.now.tables ≡ Some t.now | Err f ↦ (self.now.tables ≡ None) × (f ≡ NotClosed) ] }
     {
         self.tables.as_ref().ok_or(JobFault::NotClosed)
+    }
+}
+
+// Takes the tables out of their place. A function of its own, since it writes all of their room.
+fn empty(place: &mut Option<Tables>)
+    ensures { place.new ≡ None }
+{
+    *place = None;
+}
+
+// The same, and writes nothing where there are none: the job that has them there is open.
+pub(crate) fn take_out(place: &mut Option<Tables>)
+    ensures { place.new ≡ None }
+{
+    if place.is_some() {
+        empty(place);
     }
 }

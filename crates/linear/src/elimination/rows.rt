@@ -1,6 +1,6 @@
-// The loops of the elimination over the words of one row.
+// The loops of the elimination over the words of one row, and what a proof is told of all rows.
 ghost use Rattle.std.specs.Prelude.{◌≡◌, ℕ, ◌+◌, ◌<◌, ◌≤◌, length, slice_index, slice_index_or};
-ghost use Rattle.linear.specs.Elimination.{pitch, FirstNonzero};
+ghost use Rattle.linear.specs.Elimination.{pitch, Wide, FirstNonzero};
 
 use field::Field;
 
@@ -8,9 +8,19 @@ use field::Field;
 pub const PITCH: usize = 96;
 
 // Says how wide a row is.
-pub(super) fn tell_width(row: &[u32; PITCH])
+fn tell_width(row: &[u32; PITCH])
     ensures { length row.now ≡ pitch }
 {}
+
+// Says so of all rows of a table, and does nothing: a proof is told how long an array is that a
+// function is given, and not one in an array or a slice.
+pub(super) fn tell_widths(table: &[[u32; PITCH]])
+    ensures { Wide (length table.now) table.now }
+{
+    for row in table {
+        tell_width(row);
+    }
+}
 
 // Writes the vector into the row, and zero into the words after it.
 pub(super) fn begin<F: Field>(field: &F, row: &mut [u32], vector: &[u32])
@@ -31,19 +41,17 @@ pub(super) fn first_nonzero<F: Field>(field: &F, row: &[u32], places: usize) -> 
     row[..places].iter().position(|word| *word != zero)
 }
 
-// A row that has `q` times each of the words.
-pub(super) fn scaled<F: Field>(field: &F, words: &[u32], q: u32) -> [u32; PITCH]
+// Writes `q` times each of the words into the front of the row.
+pub(super) fn keep<F: Field>(field: &F, row: &mut [u32; PITCH], words: &[u32], q: u32)
     requires { length words.now ≤ pitch }
-    ensures width { length result ≡ pitch }
-    ensures words { (k : ℕ) → k < length words.now → slice_index result k ≡ (F.Field.meaning field.now).mul q (slice_index words.now k) }
+    ensures width { length row.new ≡ pitch }
+    ensures words { (k : ℕ) → k < length words.now → slice_index row.new k ≡ (F.Field.meaning field.now).mul q (slice_index words.now k) }
 {
-    let mut row = [0; PITCH];
     let front = &mut row[..words.len()];
     front.copy_from_slice(words);
     for word in front.iter_mut() {
         *word = field.mul(q, *word);
     }
-    row
 }
 
 // Writes the opposites of the words of a row, from the word `start` on, into all of `out`.

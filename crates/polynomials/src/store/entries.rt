@@ -1,10 +1,10 @@
 // Reading and adding polynomials.
-ghost use Rattle.std.specs.Prelude.{◌≡◌, ◌+◌, ◌<◌, ◌≤◌, ◌↔◌, [], ◌∷◌, ◌++◌, length, slice_index, slice_index_or, IsOk, OnOk, OnErr};
+ghost use Rattle.std.specs.Prelude.{◌≡◌, ◌+◌, ◌<◌, ◌≤◌, ◌↔◌, [], ◌∷◌, ◌++◌, length, slice_index_or, IsOk, OnOk, OnErr};
 ghost use Rattle.polynomials.specs.Held.{entries, held, terms_of};
 ghost use Rattle.runs.specs.Job.{terms_held, most_polynomials, most_terms};
 
 use crate::Polynomials;
-use arrayvec::{ArrayVec, CapacityError};
+use arrayvec::CapacityError;
 use staircase::Term;
 
 // There is no room for one more polynomial, or for its terms.
@@ -29,8 +29,9 @@ impl Polynomials {
         ensures { held result ≡ [] }
     {
         Polynomials {
-            terms: ArrayVec::new(),
-            ends: ArrayVec::new(),
+            count: 0,
+            starts: [0; 49],
+            terms: [Term::default(); 1024],
         }
     }
 
@@ -38,26 +39,18 @@ impl Polynomials {
     pub fn count(&self) -> usize
         ensures { result ≡ length (held self.now) }
     {
-        self.ends.len()
+        self.count
     }
 
     // The terms of the polynomial at a place, counted from 0; none past the last.
     pub fn polynomial(&self, i: usize) -> &[Term]
         ensures { result.now ≡ slice_index_or (entries self.now) i [] }
     {
-        if i < self.ends.len() {
-            &self.terms[self.start(i)..self.ends[i]]
+        if i < self.count {
+            &self.terms[self.starts[i]..self.starts[i + 1]]
         } else {
             &self.terms[..0]
         }
-    }
-
-    // Where the terms of the polynomial at a place begin: at 0, or where the one before it ends.
-    fn start(&self, i: usize) -> usize
-        requires { i < length self.now.ends.items }
-        ensures { result ≡ slice_index (0 ∷ self.now.ends.items) i }
-    {
-        if i == 0 { 0 } else { self.ends[i - 1] }
     }
 
     // How many terms the polynomials have together.
@@ -65,7 +58,7 @@ impl Polynomials {
     pub fn terms(&self) -> usize
         ensures { result ≡ terms_held (held self.now) }
     {
-        self.terms.len()
+        self.starts[self.count]
     }
 
     // Puts a polynomial after the others.
@@ -74,12 +67,14 @@ impl Polynomials {
         ensures pushed { OnOk result (held self.new ≡ held self.old ++ (terms_of terms.now ∷ [])) }
         ensures refused_as_was { OnErr result (self.new ≡ self.old) }
     {
-        if self.ends.is_full() {
+        let start = self.starts[self.count];
+        if self.count == Self::MOST || terms.len() > Self::MOST_TERMS - start {
             return Err(NoRoom);
         }
-        self.terms.try_extend_from_slice(terms)?;
-        let end = self.terms.len();
-        self.ends.push(end);
+        let end = start + terms.len();
+        self.terms[start..end].copy_from_slice(terms);
+        self.starts[self.count + 1] = end;
+        self.count += 1;
         Ok(())
     }
 
@@ -88,7 +83,6 @@ impl Polynomials {
     pub fn clear(&mut self)
         ensures { held self.new ≡ [] }
     {
-        self.terms.clear();
-        self.ends.clear();
+        self.count = 0;
     }
 }

@@ -1,4 +1,6 @@
 // From a staircase to the tables: its border, the places of the products and the border columns.
+ghost use Rattle.std.specs.Prelude.{Ok};
+ghost use Rattle.std.specs.Result.{result_and};
 ghost use Rattle.polynomials.specs.Held.{held};
 ghost use Rattle.tables.specs.Filling.{Fills};
 
@@ -13,23 +15,23 @@ use polynomials::Polynomials;
 use staircase::border;
 
 impl Tables {
-    // The tables of the polynomials with the staircase `stairs`: refused where the border is too long, a
-    // product has no place, or a border monomial falls under no rule.
+    // Makes these the tables of the polynomials with the staircase `stairs`: refused where the border is
+    // too long, a product has no place, or a border monomial falls under no rule.
     pub(crate) fn fill<F: Field, O: Order>(
+        &mut self,
         field: &F,
         order: &O,
         n: usize,
         polynomials: &Polynomials,
         stairs: ArrayVec<Monomial, 48>,
-    ) -> Result<Tables, Misfit>
-        ensures { Fills (F.Field.meaning field.now) (O.Order.meaning order.now) n (held polynomials.now) stairs.items result }
+    ) -> Result<(), Misfit>
+        ensures { Fills (F.Field.meaning field.now) (O.Order.meaning order.now) n (held polynomials.now) stairs.items (result_and result (Ok self.new)) }
     {
         if n > Monomial::VARIABLES {
             return Err(Misfit);
         }
         let edges = border::<O, 192>(order, n, stairs.as_slice()).map_err(|_many| Misfit)?;
         let products = find_places(n, stairs.as_slice(), edges.as_slice())?;
-        let mut columns = [0; 9216];
         let frame = Frame {
             field,
             n,
@@ -38,11 +40,9 @@ impl Tables {
             edges: edges.as_slice(),
             products: &products,
         };
-        frame.fill_columns(&mut columns)?;
-        Ok(Tables {
-            stairs,
-            products,
-            columns,
-        })
+        frame.fill_columns(&mut self.columns)?;
+        self.stairs = stairs;
+        self.products = products;
+        Ok(())
     }
 }

@@ -1,29 +1,48 @@
-use Rattle.std.proofs.Common.{◌≡◌, ℕ, ◌+◌, length, sym, subst, arith}
-use Rattle.std.proofs.lemmas.Result.{err_from_is_err_and}
+use Rattle.std.proofs.Common.{◌≡◌, ℕ, ◌+◌, length, take, sym, refl, ◌∙◌, subst, arith}
+use Rattle.std.proofs.lemmas.List.{take_all}
 use Rattle.order.specs.Monomials.{one, monomial}
 use Rattle.staircase.specs.Sorting.{inserted_by}
 use Rattle.staircase.specs.Edges.{Edges}
+use Rattle.staircase.proofs.Insertion.{drops_on}
 use Rattle.staircase.proofs.Outside.{edges_skip, edges_more, edges_next}
 use Rattle.staircase.proofs.edges.add_products.Goals as goal
 
+pub loop-m-init : goal.loop-m-init
+loop-m-init g c = (omega arith, c.requires.room, c.requires.edges, refl)
+
 pub loop-m-preserved-in_default : goal.loop-m-preserved-in_default
 unfolding one monomial
-loop-m-preserved-in_default g c = edges_skip _ c.args.stairs.now c.args.k c.loop-m.m-index _ c.in_default.ensures c.loop-m.invariant
+loop-m-preserved-in_default g c = let inv = c.loop-m.invariant in (inv.0, inv.1, edges_skip _ c.args.stairs.now c.args.k c.loop-m.m-index _ c.in_default.ensures inv.2, inv.3)
 
-pub returns-in_err-insert : goal.returns-in_err-insert
+pub returns-in_err-count : goal.returns-in_err-count
 unfolding one monomial
-returns-in_err-insert g c =
+returns-in_err-count g c =
     let cmp = g.O.Order.meaning c.args.order.now in
-    let p = err_from_is_err_and c.from_residual.result c.from_residual.ensures.1 in
-    rw p.1 (c.loop-m.m-index + 1, inserted_by cmp c.in-Some.t c.loop-m.edges.items, omega arith, c.in_err-insert.ensures.1, edges_more cmp c.args.stairs.now c.args.k c.loop-m.m-index c.loop-m.edges.items c.in-Some.t c.in-Some.ensures c.loop-m.invariant)
+    let inv = c.loop-m.invariant in
+    let e = c.in_err-count.ensures in
+    let all : take c.loop-m.count c.loop-m.edges ≡ c.loop-m.edges = take_all c.loop-m.count c.loop-m.edges (omega (arith, e.full)) in
+    rw c.from_residual.ensures (record {
+      fits = tt;
+      edges = tt;
+      rest_unchanged = tt;
+      full = (c.loop-m.m-index + 1, inserted_by cmp c.in-Some.t c.loop-m.edges, omega arith, omega (arith, e.longer, e.full), edges_more cmp c.args.stairs.now c.args.k c.loop-m.m-index c.loop-m.edges c.in-Some.t c.in-Some.ensures (subst (Edges cmp c.args.stairs.now c.args.k c.loop-m.m-index) all inv.2));
+    })
 
 pub loop-m-preserved : goal.loop-m-preserved
 unfolding one monomial
 loop-m-preserved g c =
     let cmp = g.O.Order.meaning c.args.order.now in
-    subst (Edges cmp c.args.stairs.now c.args.k (c.loop-m.m-index + 1)) (sym c.in_ok-insert.ensures) (edges_more cmp c.args.stairs.now c.args.k c.loop-m.m-index _ c.in-Some.t c.in-Some.ensures c.loop-m.invariant)
+    let inv = c.loop-m.invariant in
+    let e = c.in_ok-count.ensures in
+    (omega (arith, e.fits.0, inv.0), omega (arith, e.fits.2), subst (Edges cmp c.args.stairs.now c.args.k (c.loop-m.m-index + 1)) (sym e.inserted) (edges_more cmp c.args.stairs.now c.args.k c.loop-m.m-index _ c.in-Some.t c.in-Some.ensures inv.2), e.rest_unchanged ∙ drops_on c.loop-m.count c.in_ok-count.count c.loop-m.edges c.args.edges.now e.fits.0 inv.3)
 
 pub returns : goal.returns
 returns g c =
+    let inv = c.loop-m.invariant in
     let all : c.loop-m.m-index ≡ length c.args.stairs.now = omega arith in
-    edges_next _ _ c.args.k _ (subst (λ (i : ℕ). Edges (g.O.Order.meaning c.args.order.now) c.args.stairs.now c.args.k i c.loop-m.edges.items) all c.loop-m.invariant)
+    record {
+      fits = (inv.0, omega (arith, inv.1));
+      edges = edges_next _ _ c.args.k _ (subst (λ (i : ℕ). Edges (g.O.Order.meaning c.args.order.now) c.args.stairs.now c.args.k i (take c.loop-m.count c.loop-m.edges)) all inv.2);
+      rest_unchanged = inv.3;
+      full = tt;
+    }

@@ -1,14 +1,19 @@
-use Rattle.std.proofs.Common.{rules, tests}
-use Rattle.order.specs.Monomials.{one}
-use Rattle.staircase.proofs.Insertion.{Stops, stays, goes}
+use Rattle.std.proofs.Common.{arith}
+use Rattle.order.specs.Monomials.{one, monomial}
+use Rattle.staircase.proofs.Insertion.{put_here, put_there, put_more, put_last}
 use Rattle.staircase.proofs.sorting.place.Goals as goal
 
-pub returns-then-is_some_and : goal.returns-then-is_some_and
-returns-then-is_some_and g c =
-    let s : Stops (g.O.Order.meaning c.args.order.now) c.args.m one c.args.list.now c.unwrap_or-at.result = record { inside = search (rules, tests); before = search (rules, tests); here = search (rules, tests) } in
-    stays _ _ one _ _ s (search (rules, tests)) (search (rules, tests))
+pub returns-in-Less : goal.returns-in-Less
+unfolding one monomial
+returns-in-Less g c = (omega arith, put_here _ _ _ _ c.loop-i.invariant one c.loop-i-test.true c.in-Less.ensures.answer)
 
-pub returns-else-is_some_and : goal.returns-else-is_some_and
-returns-else-is_some_and g c =
-    let s : Stops (g.O.Order.meaning c.args.order.now) c.args.m one c.args.list.now c.unwrap_or-at.result = record { inside = search (rules, tests); before = search (rules, tests); here = search (rules, tests) } in
-    (s.inside, goes _ _ one _ _ s (search (rules, tests)))
+pub returns-in-Equal : goal.returns-in-Equal
+unfolding one monomial
+returns-in-Equal g c = put_there _ _ _ _ c.loop-i.invariant one c.loop-i-test.true c.in-Equal.ensures.answer
+
+pub loop-i-preserved : goal.loop-i-preserved
+unfolding one monomial
+loop-i-preserved g c = put_more _ _ _ _ c.loop-i.invariant one c.loop-i-test.true c.in-Greater.ensures.answer
+
+pub returns : goal.returns
+returns g c = (omega arith, put_last _ _ _ _ c.loop-i.invariant (omega arith))

@@ -51,7 +51,7 @@ returns-in_err-fill_columns g c laws C is =
     let places = c.in_ok-products.products in
     let placed = closing.all_placed m laws cmp O n es C stairs edges stairs_is edges_is places (c.in_ok-products.ensures.found able) in
     let known = closing.all_known m laws cmp O n es C c.as_slice-4.result.now c.as_slice-5.result.now (c.as_slice-4.ensures.value ∙ is) (c.as_slice-5.ensures.value ∙ are) places placed in
-    absurd (false≢true (c.in_err-fill_columns.ensures S E known).0)
+    absurd (false≢true (c.in_err-fill_columns.ensures.made S E known).0)
 
 pub returns : goal.returns
 returns g c laws C is =
@@ -73,7 +73,7 @@ returns g c laws C is =
     let known = closing.all_known m laws cmp O n es C c.as_slice-4.result.now c.as_slice-5.result.now (c.as_slice-4.ensures.value ∙ is) (c.as_slice-5.ensures.value ∙ are) places placed in
     let columns = c.fill_columns.new.columns in
     let wide = c.in_ok-products.ensures.wide in
-    let made = c.in_ok-fill_columns.ensures S E known in
+    let made = c.in_ok-fill_columns.ensures.made S E known in
     let size = ap length is ∙ length-map S (flat n) in
-    let held_in = subst (λ (d : ℕ). MatricesIn m laws cmp n (held c.args.polynomials.now) d places columns) (sym size) (closing.matrices m laws cmp O n es C places placed columns made.1 wide c.fill_columns.array_long) in
+    let held_in = subst (λ (d : ℕ). MatricesIn m laws cmp n (held c.args.polynomials.now) d places columns) (sym size) (closing.matrices m laws cmp O n es C places placed columns made.1 wide c.in_ok-fill_columns.ensures.room) in
     record { size = size; stairs = is; ready = held_in.ready; entries = held_in.entries }

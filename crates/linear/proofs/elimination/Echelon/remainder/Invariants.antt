@@ -1,8 +1,0 @@
-use Rattle.std.proofs.Common.{◌≡◌, length, get_or}
-use Rattle.linear.specs.Elimination.{pitch, Reduced}
-use Rattle.linear.proofs.elimination.Echelon.remainder.Given as goal
-
-abbrev pub invariant-loop-pivot : goal.invariant-loop-pivot
-invariant-loop-pivot g l =
-    (length l.work ≡ pitch)
-    × Reduced (g.F.Field.meaning l.field) l.self.rows l.self.pivots (length l.yielded) (λ j. get_or l.vector j (g.F.Field.meaning l.field).zero) l.width l.work
